@@ -5,12 +5,13 @@ function qualified(type,    out, word) {
     while (match(type, /[A-Z][A-Za-z0-9]*/)) {
         word = substr(type, RSTART, RLENGTH)
         if (word == "Self") word = type_of_impl
-        out = out substr(type, 1, RSTART - 1) ((word in home) ? home[word] : crate) "::" word
+        # The types of std's prelude have no crate's name before them.
+        out = out substr(type, 1, RSTART - 1) (word ~ /^(Result|Option)$/ ? "" : ((word in home) ? home[word] : crate) "::") word
         type = substr(type, RSTART + RLENGTH)
     }
     return out type
 }
-/^impl [A-Z]/ { type_of_impl = $2 }
+/^impl [A-Z]/ { type_of_impl = $3 == "for" ? $4 : $2 }
 /^use [a-z_0-9]+::/ { item = ""; using = 1 }
 using {
     item = item " " $0
@@ -43,7 +44,7 @@ reading {
             it = given[k]
             gsub(/^ +| +$/, "", it)
             if (it == "") continue
-            if (it == "self" || it == "mut self") it = "self: Self"
+            if (it ~ /^(&|&mut |mut )?self$/) { sub(/^mut /, "", it); sub(/self$/, "Self", it); it = "self: " it }
             sub(/^(mut )?[a-z_0-9]+: /, "", it)
             list = list (list == "" ? "" : ", ") qualified(it)
         }

@@ -1,7 +1,7 @@
 // What the engine needs of binary32 beyond the language's own operators: conversions, rounded shifts, floor, minimum,
-// maximum, size, the crossing test, bit patterns, the square root and the remainder, quick and whole. Each public function
-// takes every value of its arguments, and equals a definition in specs/Leaves.antt, or the kit's `rem`; the quick remainder
-// may be left undone.
+// maximum, size, the crossing test, bit patterns, the square root and the remainder, quick and whole. Each public
+// function takes every value of its arguments, and equals a definition in specs/Leaves.antt, or the kit's `rem`; the
+// quick remainder may be left undone.
 #![tactic(auto)]
 
 ghost use Rattle.std.specs.Prelude.{◌≡◌, ◌+◌, ◌*◌, ◌%◌, ◌^◌, ◌<◌, ◌≤◌, false, T, from_bits};
@@ -221,7 +221,8 @@ fn rest_of(a: u32, b: u32) -> f32
 // places * 2^23 + m. From 2^-126 on, the exponent's field stands for a leading digit too.
 fn places(pattern: u32) -> u32
     requires { pattern < 0x7f80_0000 }
-    ensures { (result * 2 ^ 23 ≤ pattern) × (pattern < result * 2 ^ 23 + 2 ^ 24) × (0 < result → result * 2 ^ 23 + 2 ^ 23 ≤ pattern) × (result < 254) }
+    ensures { (result * 2 ^ 23 ≤ pattern) × (pattern < result * 2 ^ 23 + 2 ^ 24)
+        × (0 < result → result * 2 ^ 23 + 2 ^ 23 ≤ pattern) × (result < 254) }
 {
     if pattern < 0x80_0000 {
         0
@@ -348,7 +349,8 @@ pub fn sqrt(x: f32) -> f32
     }
 }
 
-// The root of a finite float above 0, by its pattern. From 2^-126 on, the exponent's field stands for a leading digit too.
+// The root of a finite float above 0, by its pattern. From 2^-126 on, the exponent's field stands for a leading digit
+// too.
 fn root_of(pattern: u32) -> f32
     requires { (0 < pattern) × (pattern < 0x7f80_0000) }
     ensures { result ≡ root_of (float_of pattern) }

@@ -24,8 +24,7 @@ use Rattle.channel.specs.Channels.{with_head, with_voices, head_changed_in, hand
 use Rattle.channel.specs.declared.Head.{Head}
 use Rattle.channel.specs.declared.Channel.{Channel}
 use Rattle.channel.specs.declared.Entry.{Entry}
-use Rattle.channel.specs.declared.Found.{Found}
-use Rattle.channel.specs.declared.Found.TheVariants.{At, Nothing}
+use Rattle.std.specs.Prelude.{Option, Some, None}
 use Rattle.channel.specs.declared.Change.{Change}
 use Rattle.channel.specs.declared.Change.TheVariants as change
 use Rattle.channel.specs.declared.HeadChange.{HeadChange}
@@ -120,10 +119,10 @@ module _ {A : Type 0} (f : Channel → A) (heads : (h : Head) (c : Channel) → 
   unfolding pushed_of
   pushed_holds v c = either f (ltb c.count 32) (with_voices (set c.voices c.count v) (c.count + 1) c) c (f c) (voices _ _ c) refl
 
-  finished_holds : (p : Params) (c : Channel) (found : Found) → f (finished_at_of p c found) ≡ f c
+  finished_holds : (p : Params) (c : Channel) (found : Option ℕ) → f (finished_at_of p c found) ≡ f c
   unfolding finished_at_of
-  finished_holds p c Nothing = refl
-  finished_holds p c (At i) =
+  finished_holds p c None = refl
+  finished_holds p c (Some i) =
       let vs = set c.voices i (finish_of c.head.now p.decay_samples (get_or c.voices i blank_voice)) in
       either f (ltb i 32) (handled_of p (with_voices vs c.count c)) c (f c) (handled_holds p (with_voices vs c.count c) ∙ voices vs c.count c) refl
 

@@ -31,8 +31,7 @@ use Rattle.channel.specs.Soundness.{SoundChannel, SoundChange}
 use Rattle.channel.specs.declared.Channel.{Channel}
 use Rattle.channel.specs.declared.Change.{Change}
 use Rattle.channel.specs.declared.Change.TheVariants as change
-use Rattle.channel.specs.declared.Found.{Found}
-use Rattle.channel.specs.declared.Found.TheVariants.{At, Nothing}
+use Rattle.std.specs.Prelude.{Option, Some, None}
 use Rattle.channel.proofs.Heads.{new_sound, passthru_now, passthru_table, passthru_sound}
 use Rattle.channel.proofs.Changes.{head_change_sound}
 use Rattle.channel.proofs.Parts.{parts, joined, head_changed, voices_changed, data_within, room, voice_at, some}
@@ -78,10 +77,10 @@ module _ (capacity : ℕ) (c : Channel) (s : SoundChannel capacity c) where
           (finish_sound c.head.now v (voice_at capacity c s i blank_voice (ltb-true i c.count e)) decay (parts s).head.time h)
       go false e = rw (take-set-le c.count c.voices i (finish_of c.head.now decay (get_or c.voices i blank_voice)) (ltb-false i c.count e)) (parts s).voices
 
-  finished_sound : (p : Params) → SoundParams p → (f : Found) → SoundChannel capacity (finished_at_of p c f)
+  finished_sound : (p : Params) → SoundParams p → (f : Option ℕ) → SoundChannel capacity (finished_at_of p c f)
   unfolding finished_at_of
-  finished_sound p ok Nothing = s
-  finished_sound p ok (At i) =
+  finished_sound p ok None = s
+  finished_sound p ok (Some i) =
       let vs = finished_at p.decay_samples i in
       cond_split (SoundChannel capacity) (ltb i 32) (handled_of p (with_voices vs c.count c)) c
       (λ t. handled_sound capacity (with_voices vs c.count c)

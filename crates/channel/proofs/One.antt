@@ -7,7 +7,6 @@ use native.Mathlib.Omega.{arith}
 use lib.Dec.{eqb}
 use lib.ListN.{length, get_or}
 use borrow.Author.Tests.{ne_eqb, eq-eqb, le-leb, eqb-true, eqb-false}
-use Rattle.walks.specs.Walks.{fold}
 use Rattle.walks.proofs.Tests.{either, or-false}
 use Rattle.phrases.specs.declared.Phrase.{Phrase}
 use Rattle.phrases.specs.declared.Beside.{Beside}
@@ -44,7 +43,7 @@ module _ (c : Channel) (one : c.several ≡ false) where
   one_recording k e = rw (eq-eqb k c.head.chosen e)
 
   pub one_beside : (capacity : ℕ) → beside_in capacity c ≡ record { behind = 0; next = capacity }
-  unfolding others_of beside_of beside_with reach_of no_samples fold
+  unfolding others_of beside_of beside_with reach_of no_samples
   one_beside capacity = rw one
 
   module _ (front : c.head.start ≡ 0) where

@@ -12,7 +12,7 @@ use borrow.Author.Tests.{ltb-true, ltb-false}
 use lib.Ieee.Bits.{is_true}
 use lib.Ieee.Fits.{and_i, and_l, and_r}
 use Rattle.binary32.proofs.Truth.{yes}
-use Rattle.walks.specs.Walks.{every}
+use Rattle.std.specs.List.{list_all}
 use Rattle.walks.specs.Each.{Each}
 use Rattle.walks.proofs.Lists.Each.{each_at, each_every, each_weaker, every_each}
 use Rattle.phrases.specs.declared.Phrase.{Phrase}
@@ -48,7 +48,7 @@ parts {capacity} {c} h =
     let a : Bool = leb c.count 32 in
     let b : Bool = good_head capacity c.head in
     let e : Bool = good_table capacity c.head c.several c.table in
-    let d : Bool = every (good_voice c.head.now) (live c) in
+    let d : Bool = list_all (good_voice c.head.now) (live c) in
     let t : T (a && b && (e && d)) = yes h.good in
     let u : T (e && d) = and_r (a && b) (e && d) t in
     record {
@@ -66,7 +66,7 @@ joined {capacity} {c} g =
     let a : Bool = leb c.count 32 in
     let b : Bool = good_head capacity c.head in
     let e : Bool = good_table capacity c.head c.several c.table in
-    let d : Bool = every (good_voice c.head.now) (live c) in
+    let d : Bool = list_all (good_voice c.head.now) (live c) in
     let S = SoundVoice c.head.now in
     record {
       good = is_true (a && b && (e && d))

@@ -11,7 +11,8 @@ use lib.Dec.{eqb, ltb}
 use lib.ListN.{length, take, drop, set}
 use lib.Seq.{sets}
 use lib.Ieee.{Float}
-use Rattle.walks.specs.Walks.{without, behind, fold}
+use Rattle.std.specs.List.{fold}
+use Rattle.walks.specs.Walks.{without, behind}
 use Rattle.common_types.specs.declared.Params.{Params}
 use Rattle.binary32.specs.Leaves.{zero32}
 use Rattle.phrases.specs.declared.Phrase.{Phrase}
@@ -172,7 +173,7 @@ module _ (s : Turning) where
   rest_start c = simp zero-add
 
   pub rest_end : (c : Channel) (k : ℕ) (out : Float) → rest_of c k out [] ≡ record { channel = with_voices c.voices k c; output = out }
-  unfolding kept_of without fold
+  unfolding kept_of without
   rest_end c k out = simp add-zero
 
   -- how many the rest of the walk has moved up at its end, with the voice at i next, k kept so far and `moved` of them moved: once one has left, each that is kept
@@ -194,7 +195,6 @@ module _ (s : Turning) where
   module _ (c : Channel) (k : ℕ) (out out' : Float) (v w : Voice) (b : Bool) (turned : w ≡ s.turn v)
       (sounds : out' ≡ s.adds out v) (is : b ≡ s.leaves w) (vs : List Voice) where
     heard_on : heard_from out (v ∷ vs) ≡ heard_from out' vs
-    unfolding fold
     heard_on = ap (λ (x : Float). heard_from x vs) (sym sounds)
 
     kept_on : kept_of s (v ∷ vs) ≡ cond b (kept_of s vs) (w ∷ kept_of s vs)
@@ -267,6 +267,6 @@ resting_tidied [] = refl
 resting_tidied (v ∷ vs) = resting_tidied vs
 
 pub resting_heard : (vs : List Voice) → heard_sum resting vs ≡ zero32
-unfolding heard_sum resting fold
+unfolding heard_sum resting
 resting_heard [] = refl
 resting_heard (v ∷ vs) = resting_heard vs

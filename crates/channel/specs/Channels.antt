@@ -1,12 +1,14 @@
 -- What each call does to one channel (document 01, module 6, and the Rust's Channel). The voices are the first `count`
 -- of 32 places; what stands in the others is kept as it was. `m` is the channel's part of the lent memory. Definitions
 -- only.
-use Rattle.std.specs.Prelude.{ℕ, ◌+◌, ◌-◌, Bool, false, not, ◌&&◌, cond, List, ◌++◌, map, leb, ltb, eqb, length, take, drop, get_or, set, replicate, Float}
+use Rattle.std.specs.Prelude.{Option, Some, None, ℕ, ◌+◌, ◌-◌, Bool, false, not, ◌&&◌, cond, List, ◌++◌, map, leb, ltb, eqb, length, take, drop, get_or, set, replicate, Float}
 use Rattle.std.proofs.lemmas.List.Edits.{sets}
 use Rattle.std.specs.Float.{binary32}
 use Rattle.std.specs.Float.Ieee.{add}
 use Rattle.binary32.specs.Leaves.{bits_of, zero32, one32}
-use Rattle.walks.specs.Walks.{any, every, without, behind, fold, seek}
+use Rattle.std.specs.Option.{option_map_or}
+use Rattle.std.specs.List.{list_any, list_all, fold, position_from}
+use Rattle.walks.specs.Walks.{without, behind}
 use Rattle.common_types.specs.declared.InitParams.{InitParams}
 use Rattle.common_types.specs.declared.Params.{Params}
 use Rattle.common_types.specs.declared.Note.{Note}
@@ -66,8 +68,6 @@ use Rattle.channel.specs.declared.HeadChange.{HeadChange}
 use Rattle.channel.specs.declared.HeadChange.TheVariants.{StartRecording, StopRecording}
 use Rattle.channel.specs.declared.Played.{Played}
 use Rattle.channel.specs.declared.Turned.{Turned}
-use Rattle.channel.specs.declared.Found.{Found}
-use Rattle.channel.specs.declared.Found.TheVariants.{At, Nothing}
 
 abbrev pub with_head : Head → Channel → Channel
 with_head h
@@ -129,11 +129,13 @@ begins_in c = begins_at (behind_in c) c.head
 
 -- a voice has the phrase of that number
 unfoldable pub uses_of : ℕ → Channel → Bool
-uses_of k c = any (λ (v : Voice). eqb v.phrase k) (live c)
+uses_of k c = list_any (λ (v : Voice). eqb v.phrase k) (live c)
 
 -- what the channel has against what a change asks, in a record of that capacity
 abbrev pub against_of : ℕ → Ask → Channel → Against
-against_of capacity a c = against_by a c.head c.count (uses_of (leaving_of a) c) (beside_in capacity c) capacity
+against_of capacity a c =
+    let used = option_map_or (λ k. uses_of k c) (leaving_of a) false in
+    against_by a c.head c.count used (beside_in capacity c) capacity
 
 -- a change that touches no voice
 unfoldable pub head_changed_in : HeadChange → Channel → Channel
@@ -166,7 +168,7 @@ abbrev pub unfinished_of : Voice → Bool
 unfinished_of v = not v.finished
 
 unfoldable pub any_unfinished_of : Channel → Bool
-any_unfinished_of c = any unfinished_of (live c)
+any_unfinished_of c = list_any unfinished_of (live c)
 
 -- pass-through follows whether a voice is unfinished
 unfoldable pub handled_of : Params → Channel → Channel
@@ -189,13 +191,13 @@ same_note a b = eqb a.note b.note && eqb a.channel b.channel
 unfoldable pub wanted_of : Note → Voice → Bool
 wanted_of note v = same_note v.note note && unfinished_of v
 
-unfoldable pub find_of : Note → Channel → Found
-find_of note c = seek At Nothing (wanted_of note) 0 (live c)
+unfoldable pub find_of : Note → Channel → Option ℕ
+find_of note c = position_from (wanted_of note) 0 (live c)
 
 -- the voice at one of the 32 places is finished now
-unfoldable pub finished_at_of : Params → Channel → Found → Channel
-finished_at_of p c Nothing = c
-finished_at_of p c (At i) =
+unfoldable pub finished_at_of : Params → Channel → Option ℕ → Channel
+finished_at_of p c None = c
+finished_at_of p c (Some i) =
     cond (ltb i 32)
     (handled_of p (with_voices
     (set c.voices i (finish_of c.head.now p.decay_samples (get_or c.voices i blank_voice))) c.count c))
@@ -326,7 +328,7 @@ full_of c = not (eqb c.head.data_len 0) && leb 32 c.count
 
 -- ---- a channel that may stand in a record of that capacity
 unfoldable pub good_voices_of : Channel → Bool
-good_voices_of c = every (good_voice c.head.now) (live c)
+good_voices_of c = list_all (good_voice c.head.now) (live c)
 
 unfoldable pub good_channel : ℕ → Channel → Bool
 good_channel capacity c = leb c.count 32 && good_head capacity c.head

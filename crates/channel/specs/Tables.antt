@@ -1,7 +1,7 @@
 -- The table of a channel's phrases (request 11/12), and what a change asks of it and stores in it. The table has the phrases
 -- that aren't chosen; the chosen one's entry is not looked at, and where there aren't several phrases none is. Definitions
 -- only. Assumes nothing.
-use Rattle.std.specs.Prelude.{ℕ, min, Bool, true, false, not, ◌&&◌, ◌||◌, cond, List, leb, ltb, eqb, get_or, set}
+use Rattle.std.specs.Prelude.{ℕ, min, Bool, true, false, not, ◌&&◌, ◌||◌, cond, Option, Some, None, List, leb, ltb, eqb, get_or, set}
 use Rattle.phrases.specs.declared.Phrase.{Phrase}
 use Rattle.phrases.specs.declared.Beside.{Beside}
 use Rattle.phrases.specs.Phrases.{no_phrase, no_phrases, empty_from, good_phrases}
@@ -128,13 +128,13 @@ asks_of (change.Speed note speed) = ask.Nothing
 asks_of (change.Head d) = head_asks d
 asks_of change.Reset = ask.Nothing
 
--- the number of the phrase that is to be deleted; 8 where none is
-unfoldable pub leaving_of : Ask → ℕ
-leaving_of ask.Voice = 8
-leaving_of (ask.Samples samples) = 8
-leaving_of (ask.Choice k) = 8
-leaving_of (ask.Delete k) = k
-leaving_of ask.Nothing = 8
+-- the number of the phrase that is to be deleted, if one is
+unfoldable pub leaving_of : Ask → Option ℕ
+leaving_of ask.Voice = None
+leaving_of (ask.Samples samples) = None
+leaving_of (ask.Choice k) = None
+leaving_of (ask.Delete k) = Some k
+leaving_of ask.Nothing = None
 
 -- what is in its way. A start (row 5): 32 voices on a recording that isn't empty. A read (row 15): it is recording. A choice
 -- (row 21): it is recording another phrase. A delete (row 20): a voice has the phrase, or it is being recorded

@@ -51,6 +51,7 @@ ghost use Rattle.channel.specs.Tables.{
   against_by,
 };
 ghost use Rattle.channel.specs.Channels.{
+  live,
   others_in,
   phrases_in,
   phrase_at,
@@ -61,7 +62,6 @@ ghost use Rattle.channel.specs.Channels.{
   head_changed_in,
   gathered_in,
   gathered_memory,
-  same_note,
   any_unfinished_of,
   channel_of,
   reset_of,
@@ -132,12 +132,6 @@ pub struct Played {
     pub moved: u8,
 }
 
-#[derive(Clone, Copy)]
-pub enum Found {
-    At(usize),
-    Nothing,
-}
-
 // What a call other than a sample does to each channel.
 #[derive(Clone, Copy)]
 pub enum Change {
@@ -187,6 +181,7 @@ pub struct Against {
 }
 
 impl Head {
+    #[tactic(auto, unfolding(crate::specs::Heads::head_of))]
     pub fn new(level: f32, interpolates: bool) -> Self
         ensures { result ≡ head_of level interpolates }
     {
@@ -220,6 +215,7 @@ impl Head {
     }
 
     // Where a recording that starts begins: one that is empty behind the other phrases.
+    #[tactic(auto, unfolding(crate::specs::Heads::begins_at))]
     pub fn begins(self, behind: usize) -> usize
         ensures { result ≡ begins_at behind self }
     {
@@ -231,6 +227,7 @@ impl Head {
     }
 
     // The chosen phrase after a change that finds this of the others: the one that is chosen next, or where they end.
+    #[tactic(auto, unfolding(crate::specs::Heads::phrase_after))]
     fn phrase_after(self, change: HeadChange, found: Phrase) -> Phrase
         ensures { result ≡ phrase_after change found self }
     {
@@ -240,11 +237,9 @@ impl Head {
                 length: self.data_len,
             },
             HeadChange::StopRecording => {
-                let recorder = self.recorder;
-                let r = recorder.stop(self.data_len);
                 Phrase {
                     start: self.start,
-                    length: r.data_len,
+                    length: self.recorder.stop(self.data_len).data_len,
                 }
             }
             HeadChange::Interpolate(_) => self.recording(),
@@ -267,16 +262,14 @@ impl Head {
         }
     }
 
+    #[tactic(auto, unfolding(crate::specs::Heads::recorder_after))]
     fn recorder_after(self, change: HeadChange) -> Recorder
         ensures { result ≡ recorder_after change self }
     {
         let recorder = self.recorder;
         match change {
             HeadChange::StartRecording => recorder.start(),
-            HeadChange::StopRecording => {
-                let r = recorder.stop(self.data_len);
-                r.recorder
-            }
+            HeadChange::StopRecording => { recorder.stop(self.data_len).recorder }
             HeadChange::Interpolate(_) => recorder,
             HeadChange::Load(_) => recorder,
             HeadChange::Choose(_) => recorder,
@@ -284,6 +277,7 @@ impl Head {
         }
     }
 
+    #[tactic(auto, unfolding(crate::specs::Heads::head_changed_of))]
     pub fn changed(self, change: HeadChange, found: Phrase) -> Self
         ensures { result ≡ head_changed_of change found self }
     {
@@ -307,17 +301,15 @@ impl Head {
         ensures value { result ≡ with_recorded (recorded_of self.recorder self.data_len (length «data».old)) self }
         ensures data_after { «data».new ≡ data_after self.recorder (bits_of input) «data».old }
     {
-        let recorder = self.recorder;
         let sample = binary32::to_bits(input);
-        self.with_recorded(recorder.with_sample(sample, data, self.data_len))
+        self.with_recorded(self.recorder.with_sample(sample, data, self.data_len))
     }
 
     // What is heard: the voices' sum, and the input at its level.
     pub fn mixed(self, input: f32, played: f32) -> f32
         ensures { result ≡ mixed_of input played self }
     {
-        let volume = self.passthru_volume;
-        0.0 + played + input * volume.level(self.now)
+        0.0 + played + input * self.passthru_volume.level(self.now)
     }
 
     fn with_passthru(self, on: bool, volume: Volume) -> Self
@@ -337,6 +329,7 @@ impl Head {
     }
 
     // The input passes while it is asked for and no voice is unfinished. A change of that begins a ramp.
+    #[tactic(auto, unfolding(crate::specs::Heads::passthru_of))]
     pub fn handle_passthru(self, params: Params, unfinished: bool) -> Self
         ensures { result ≡ passthru_of params unfinished self }
     {
@@ -344,8 +337,7 @@ impl Head {
         if wanted == self.passthru_on {
             return self;
         }
-        let volume = self.passthru_volume;
-        self.with_passthru(wanted, ramp(volume, self.now, params, wanted))
+        self.with_passthru(wanted, ramp(self.passthru_volume, self.now, params, wanted))
     }
 
     // A ramp of pass-through to that state begins, over so many samples.
@@ -353,16 +345,15 @@ impl Head {
         ensures { result
             ≡ with_passthru on (toward_of self.passthru_volume self.now samples (cond on one32 zero32)) self }
     {
-        let volume = self.passthru_volume;
-        self.with_passthru(on, volume.toward(self.now, samples, full(on)))
+        self.with_passthru(on, self.passthru_volume.toward(self.now, samples, full(on)))
     }
 
     // The end of a sample: the level's step, the change of state, and the clock.
+    #[tactic(auto, unfolding(crate::specs::Heads::closed_of, crate::specs::Heads::passthru_of))]
     pub fn closed(self, params: Params, unfinished: bool) -> Self
         ensures { result ≡ closed_of params unfinished self }
     {
-        let volume = self.passthru_volume;
-        let stepped = volume.stepped(self.now);
+        let stepped = self.passthru_volume.stepped(self.now);
         let wanted = passes(params, unfinished);
         if wanted == self.passthru_on {
             return self.after(self.passthru_on, stepped);
@@ -388,11 +379,11 @@ impl Head {
     }
 
     // Whether the end of a sample, with pass-through wanted so, changes nothing but the clock.
+    #[tactic(auto, unfolding(crate::specs::Heads::rests_of))]
     pub fn rests(self, wanted: bool) -> bool
         ensures { result ≡ rests_of wanted self }
     {
-        let volume = self.passthru_volume;
-        volume.is_static() & (wanted == self.passthru_on)
+        self.passthru_volume.is_static() & (wanted == self.passthru_on)
     }
 
     // A copy made field by field, as `Volume::copied` is.
@@ -416,8 +407,7 @@ impl Head {
     pub fn is_recording(self) -> bool
         ensures { result ≡ is_recording_of self.recorder }
     {
-        let recorder = self.recorder;
-        recorder.is_recording()
+        self.recorder.is_recording()
     }
 
     // The recording: the phrase that is chosen.
@@ -431,6 +421,7 @@ impl Head {
     }
 
     // The phrase of that number, by its entry of the table.
+    #[tactic(auto, unfolding(crate::specs::Heads::phrase_by))]
     pub fn phrase_by(self, k: u8, several: bool, entry: Phrase) -> Phrase
         ensures { result ≡ phrase_by self k several entry }
     {
@@ -464,43 +455,39 @@ impl Head {
 
     // The part of a memory of that size that the recorder writes to, where the other phrases reach so far: from the
     // recording's start on if it is behind them, else its own.
+    #[tactic(auto, unfolding(crate::specs::Heads::written_in))]
     pub fn room(self, behind: usize, size: usize) -> Room
         ensures value { result ≡ written_in behind self size }
         ensures from_le_to { (result.from ≤ result.to) × (result.to ≤ size) }
     {
         if behind <= self.start {
             return Room {
-                from: walks::smaller(self.start, size),
+                from: self.start.min(size),
                 to: size,
             };
         }
-        let recording = self.recording();
-        recording.room(size)
+        self.recording().room(size)
     }
 
     // How many samples the recording may have without another phrase in its way.
+    #[tactic(auto, unfolding(crate::specs::Heads::holds_of))]
     fn holds(self, b: Beside, capacity: usize) -> usize
         ensures { result ≡ holds_of b capacity self }
     {
         if self.data_len == 0 {
-            return less(capacity, b.behind);
+            return capacity.saturating_sub(b.behind);
         }
-        less(b.next, self.start)
+        b.next.saturating_sub(self.start)
     }
 
+    #[tactic(auto, unfolding(crate::specs::Heads::good_head))]
     pub fn good(self, capacity: usize) -> bool
         ensures { result ≡ good_head capacity self }
     {
-        let recording = self.recording();
-        if (LAST_TIME < self.now) | (8 <= self.chosen) | !recording.ends_by(capacity) {
+        if (LAST_TIME < self.now) | (8 <= self.chosen) | !self.recording().ends_by(capacity) {
             return false;
         }
-        let volume = self.passthru_volume;
-        if !volume.good(self.now) {
-            return false;
-        }
-        let recorder = self.recorder;
-        recorder.good(self.data_len, capacity)
+        self.passthru_volume.good(self.now) && self.recorder.good(self.data_len, capacity)
     }
 }
 
@@ -515,6 +502,7 @@ pub enum Ask {
     Nothing,
 }
 
+#[tactic(auto, unfolding(crate::specs::Tables::head_asks))]
 fn head_asks(change: HeadChange) -> Ask
     ensures { result ≡ head_asks change }
 {
@@ -528,6 +516,7 @@ fn head_asks(change: HeadChange) -> Ask
     }
 }
 
+#[tactic(auto, unfolding(crate::specs::Tables::asks_of))]
 pub fn asks(change: Change) -> Ask
     ensures { result ≡ asks_of change }
 {
@@ -569,16 +558,17 @@ pub fn held_against(
     Against { blocked, short }
 }
 
-// The number of the phrase that is to be deleted; 8 where none is.
-pub fn leaving(ask: Ask) -> u8
+// The number of the phrase that is to be deleted, if one is.
+#[tactic(auto, unfolding(crate::specs::Tables::leaving_of))]
+pub fn leaving(ask: Ask) -> Option<u8>
     ensures { result ≡ leaving_of ask }
 {
     match ask {
-        Ask::Voice => 8,
-        Ask::Samples(_) => 8,
-        Ask::Choice(_) => 8,
-        Ask::Delete(k) => k,
-        Ask::Nothing => 8,
+        Ask::Voice => None,
+        Ask::Samples(_) => None,
+        Ask::Choice(_) => None,
+        Ask::Delete(k) => Some(k),
+        Ask::Nothing => None,
     }
 }
 
@@ -590,6 +580,7 @@ pub fn place_of(k: u8) -> usize
     if k < 8 { k as usize } else { 7 }
 }
 
+#[tactic(auto, unfolding(crate::specs::Tables::head_names))]
 fn head_names(change: HeadChange) -> u8
     ensures { result ≡ head_names change }
 {
@@ -603,7 +594,9 @@ fn head_names(change: HeadChange) -> u8
     }
 }
 
-// The number of the phrase that a change names; 0 where it names none.
+// The number of the phrase that a change names; 0 where it names none. No Option: `head_entry` stores the entry that was
+// looked at again, so one is looked at for each change, and 0 is its place.
+#[tactic(auto, unfolding(crate::specs::Tables::names_of))]
 pub fn names(change: Change) -> u8
     ensures { result ≡ names_of change }
 {
@@ -617,6 +610,7 @@ pub fn names(change: Change) -> u8
 }
 
 // What a change of heads finds of the other phrases, of which `entry` is the one it names.
+#[tactic(auto, unfolding(crate::specs::Tables::found_by))]
 pub fn finds(change: HeadChange, several: bool, entry: Phrase, behind: usize) -> Phrase
     ensures { result ≡ found_by change several entry behind }
 {
@@ -647,6 +641,7 @@ fn as_is(several: bool, place: usize, entry: Phrase) -> Entry
     }
 }
 
+#[tactic(auto, unfolding(crate::specs::Tables::head_entry))]
 fn head_entry(change: HeadChange, head: Head, several: bool, entry: Phrase) -> Entry
     ensures { result ≡ head_entry change head several entry }
 {
@@ -676,6 +671,7 @@ fn head_entry(change: HeadChange, head: Head, several: bool, entry: Phrase) -> E
 }
 
 // What a change stores in the table, where `entry` is the one of the number that it names.
+#[tactic(auto, unfolding(crate::specs::Tables::entry_stored))]
 pub fn entry_of(change: Change, head: Head, several: bool, entry: Phrase) -> Entry
     ensures value { result ≡ entry_stored change head several entry }
     ensures place_bound { result.place < 8 }
@@ -689,6 +685,7 @@ pub fn entry_of(change: Change, head: Head, several: bool, entry: Phrase) -> Ent
     }
 }
 
+#[tactic(auto, unfolding(crate::specs::Heads::interpolates_after))]
 fn interpolates_after(change: HeadChange, on: bool) -> bool
     ensures { result ≡ interpolates_after change on }
 {
@@ -702,6 +699,7 @@ fn interpolates_after(change: HeadChange, on: bool) -> bool
     }
 }
 
+#[tactic(auto, unfolding(crate::specs::Heads::chosen_after))]
 fn chosen_after(change: HeadChange, chosen: u8) -> u8
     ensures { result ≡ chosen_after change chosen }
 {
@@ -721,6 +719,7 @@ pub fn passes(params: Params, unfinished: bool) -> bool
     params.auto_passthru & !unfinished
 }
 
+#[tactic(auto, unfolding(crate::specs::Heads::ramp_of))]
 fn ramp(volume: Volume, now: usize, params: Params, wanted: bool) -> Volume
     ensures { result ≡ ramp_of volume now params wanted }
 {
@@ -746,6 +745,7 @@ fn full(on: bool) -> f32
 }
 
 // Whether the phrases of a table lie within the capacity, and no two have a sample in common.
+#[tactic(auto, unfolding(crate::specs::Tables::good_table))]
 pub fn good_table(head: Head, several: bool, table: [Phrase; 8], capacity: usize) -> bool
     ensures { result ≡ good_table capacity head several table }
 {
@@ -758,53 +758,34 @@ pub fn good_table(head: Head, several: bool, table: [Phrase; 8], capacity: usize
     )
 }
 
+#[tactic(auto, unfolding(crate::specs::Heads::next_time))]
 pub fn next_time(now: usize) -> usize
     ensures { result ≡ next_time now }
 {
     if now < LAST_TIME { now + 1 } else { now }
 }
 
-fn less(a: usize, b: usize) -> usize
-    ensures { result ≡ a - b }
-{
-    if a < b { 0 } else { a - b }
-}
-
-pub fn same_note(a: Note, b: Note) -> bool
-    ensures { result ≡ same_note a b }
-{
-    if a.note == b.note {
-        a.channel == b.channel
-    } else {
-        false
-    }
-}
-
+#[tactic(auto, unfolding(crate::specs::Channels::wanted_of))]
 pub fn wanted(v: Voice, note: Note) -> bool
     ensures { result ≡ wanted_of note v }
 {
-    let own = v.note;
-    if same_note(own, note) {
-        !v.finished
-    } else {
-        false
-    }
+    (v.note == note) & !v.finished
 }
 
 // How many places there are to walk: the count, and never more than the array has.
 pub fn places(count: usize) -> usize
     ensures { result ≡ min count 32 }
 {
-    if count < 32 { count } else { 32 }
+    count.min(32)
 }
 
 impl Channel {
+    #[tactic(auto, unfolding(crate::specs::Channels::channel_of))]
     pub fn new(params: InitParams) -> Self
         ensures { result ≡ channel_of params }
     {
-        let blank = Voice::blank();
         Self {
-            voices: [blank; 32],
+            voices: [Voice::blank(); 32],
             table: phrases::none(),
             count: 0,
             head: Head::new(full(params.auto_passthru), false),
@@ -816,57 +797,55 @@ impl Channel {
     fn others(self) -> [Phrase; 8]
         ensures { result ≡ others_in self }
     {
-        let table = self.table;
-        let head = self.head;
-        phrases::others(table, self.several, head.chosen)
+        phrases::others(self.table, self.several, self.head.chosen)
     }
 
     // The phrase of that number.
     pub fn phrase_at(self, k: u8) -> Phrase
         ensures { result ≡ phrase_at self k }
     {
-        let head = self.head;
-        head.phrase_by(k, self.several, self.table[place_of(k)])
+        self.head
+            .phrase_by(k, self.several, self.table[place_of(k)])
     }
 
     fn beside(self, capacity: usize) -> Beside
         ensures { result ≡ beside_in capacity self }
     {
-        let head = self.head;
-        phrases::around(self.others(), head.start, capacity)
+        phrases::around(self.others(), self.head.start, capacity)
     }
 
     fn good_phrases(self, capacity: usize) -> bool
         ensures { result ≡ good_table capacity self.head self.several self.table }
     {
-        let table = self.table;
-        good_table(self.head, self.several, table, capacity)
+        good_table(self.head, self.several, self.table, capacity)
+    }
+
+    // The voices that there are.
+    #[tactic(auto, using(walks::proofs::Lists::Loops::take_most))]
+    pub fn live(&self) -> &[Voice]
+        ensures { result.now ≡ live self.now }
+    {
+        &self.voices[..places(self.count)]
     }
 
     // Whether a voice has the phrase of that number.
+    #[tactic(auto, unfolding(crate::specs::Channels::uses_of))]
     fn uses(self, k: u8) -> bool
         ensures { result ≡ uses_of k self }
     {
-        let n = places(self.count);
-        let mut i = 0;
-        while i < n {
-            if self.voices[i].phrase == k {
-                return true;
-            }
-            i += 1;
-        }
-        false
+        self.live().iter().any(|v| v.phrase == k)
     }
 
     // What the channel has against what a change asks, in a record of that capacity.
     pub fn against(self, ask: Ask, capacity: usize) -> Against
         ensures { result ≡ against_of capacity ask self }
     {
-        let used = self.uses(leaving(ask));
+        let used = leaving(ask).is_some_and(|k| self.uses(k));
         let b = self.beside(capacity);
         held_against(ask, self.head, self.count, used, b, capacity)
     }
 
+    #[tactic(auto, unfolding(crate::specs::Channels::reset_of))]
     pub fn reset(mut self) -> Self
         ensures { result ≡ reset_of self }
     {
@@ -876,30 +855,24 @@ impl Channel {
         self
     }
 
+    #[tactic(auto, unfolding(crate::specs::Channels::any_unfinished_of))]
     fn any_unfinished(self) -> bool
         ensures { result ≡ any_unfinished_of self }
     {
-        let n = places(self.count);
-        let mut i = 0;
-        while i < n {
-            if !self.voices[i].finished {
-                return true;
-            }
-            i += 1;
-        }
-        false
+        self.live().iter().any(|v| !v.finished)
     }
 
+    #[tactic(auto, unfolding(crate::specs::Channels::handled_of))]
     fn handle_passthru(mut self, params: Params) -> Self
         ensures { result ≡ handled_of params self }
     {
         let unfinished = self.any_unfinished();
-        let head = self.head;
-        self.head = head.handle_passthru(params, unfinished);
+        self.head = self.head.handle_passthru(params, unfinished);
         self
     }
 
     // One voice more, at the end, where there is a place.
+    #[tactic(auto, unfolding(crate::specs::Channels::pushed_of))]
     fn push(mut self, v: Voice) -> Self
         ensures { result ≡ pushed_of v self }
     {
@@ -913,51 +886,39 @@ impl Channel {
     }
 
     // A channel with no recording takes no voice.
+    #[tactic(auto, unfolding(crate::specs::Channels::start_playing_of))]
     pub fn with_start(self, params: Params, position: f32, note: Note, velocity: f32) -> Self
         ensures { result ≡ start_playing_of params position note velocity self }
     {
-        let head = self.head;
-        if head.data_len == 0 {
+        if self.head.data_len == 0 {
             return self;
         }
-        let v = Voice::new(params, position, note, velocity, head.moment());
+        let v = Voice::new(params, position, note, velocity, self.head.moment());
         self.push(v).handle_passthru(params)
     }
 
     // The place of the first unfinished voice with that note.
-    fn find(self, note: Note) -> Found
+    #[tactic(auto, unfolding(crate::specs::Channels::find_of))]
+    fn find(self, note: Note) -> Option<usize>
         ensures { result ≡ find_of note self }
     {
-        let n = places(self.count);
-        let mut i = 0;
-        let found = loop {
-            if n <= i {
-                break Found::Nothing;
-            }
-            let v = self.voices[i];
-            if wanted(v, note) {
-                break Found::At(i);
-            }
-            i += 1;
-        };
-        found
+        self.live().iter().position(|v| wanted(*v, note))
     }
 
-    fn finish_voice(mut self, params: Params, found: Found) -> Self
+    fn finish_voice(mut self, params: Params, found: Option<usize>) -> Self
         ensures { result ≡ finished_at_of params self found }
     {
-        let Found::At(i) = found else {
+        let Some(i) = found else {
             return self;
         };
         if 32 <= i {
             return self;
         }
-        let v = self.voices[i];
-        let head = self.head;
-        self.voices[i] = v.finish(head.now, params.decay_samples);
+        self.voices[i] = self.voices[i].finish(self.head.now, params.decay_samples);
         self.handle_passthru(params)
     }
 
+    #[tactic(auto, unfolding(crate::specs::Channels::stop_playing_of))]
     pub fn with_stop(self, params: Params, note: Note) -> Self
         ensures { result ≡ stop_playing_of params note self }
     {
@@ -970,11 +931,8 @@ impl Channel {
         ensures { result ≡ set_note_speed_of note speed self }
     {
         let n = places(self.count);
-        let mut i = 0;
-        while i < n {
-            let v = self.voices[i];
-            self.voices[i] = sped(v, note, speed);
-            i += 1;
+        for i in 0..n {
+            self.voices[i] = sped(self.voices[i], note, speed);
         }
         self
     }
@@ -983,16 +941,14 @@ impl Channel {
     fn all(self) -> [Phrase; 8]
         ensures { result ≡ phrases_in self }
     {
-        let head = self.head;
-        phrases::with(self.others(), head.chosen, head.recording())
+        phrases::with(self.others(), self.head.chosen, self.head.recording())
     }
 
     // Where a recording that is read begins.
     pub fn begins(self) -> usize
         ensures { result ≡ begins_in self }
     {
-        let head = self.head;
-        head.begins(self.beside(0).behind)
+        self.head.begins(self.beside(0).behind)
     }
 
     // Moves the phrases down in the channel's part of the memory, so that all free room is behind them.
@@ -1001,9 +957,7 @@ impl Channel {
         ensures data_after { «data».new ≡ gathered_memory self «data».old }
     {
         let all = phrases::gather(self.all(), data);
-        let head = self.head;
-        let own = all[place_of(head.chosen)];
-        self.head.start = own.start;
+        self.head.start = all[place_of(self.head.chosen)].start;
         if self.several {
             self.table = all;
         }
@@ -1021,9 +975,7 @@ impl Channel {
         if e.clears {
             self.table = phrases::none();
         }
-        let place = e.place;
-        let phrase = e.phrase;
-        self.table[place] = phrase;
+        self.table[e.place] = e.phrase;
         self.several = e.several;
         self.head = head.changed(change, found);
         self
@@ -1049,9 +1001,7 @@ impl Channel {
         let head = self.head;
         let b = self.beside(0);
         let room = head.room(b.behind, data.len());
-        let from = room.from;
-        let to = room.to;
-        self.head = head.recorded(input, &mut data[from..to]);
+        self.head = head.recorded(input, &mut data[room.from..room.to]);
         self
     }
 
@@ -1065,23 +1015,18 @@ impl Channel {
         let mut output = 0.0;
         let mut moved = 0;
         let mut k = 0;
-        let mut i = 0;
-        while i < n {
+        for i in 0..n {
             let v = self.voices[i];
             let phrase = self.phrase_at(v.phrase);
             let room = phrase.room(data.len());
             let at = head.moment_on(v.phrase, phrase.length);
-            let from = room.from;
-            let to = room.to;
-            let r = take_turn(v, output, at, params, &data[from..to]);
+            let r = take_turn(v, output, at, params, &data[room.from..room.to]);
             output = r.output;
             if r.stays {
                 moved = moved_up(moved, k, i);
-                let w = r.voice;
-                self.voices[k] = w;
+                self.voices[k] = r.voice;
                 k += 1;
             }
-            i += 1;
         }
         self.count = k;
         Played {
@@ -1110,6 +1055,7 @@ impl Channel {
         }
     }
 
+    #[tactic(auto, unfolding(crate::specs::Channels::changed_of))]
     pub fn changed(self, change: Change) -> Self
         ensures { result ≡ changed_of change self }
     {
@@ -1127,49 +1073,30 @@ impl Channel {
         }
     }
 
+    #[tactic(auto, unfolding(crate::specs::Channels::good_voices_of))]
     fn good_voices(self) -> bool
         ensures { result ≡ good_voices_of self }
     {
-        let head = self.head;
-        let n = places(self.count);
-        let mut i = 0;
-        while i < n {
-            let v = self.voices[i];
-            if !v.good(head.now) {
-                return false;
-            }
-            i += 1;
-        }
-        true
+        self.live().iter().all(|v| v.good(self.head.now))
     }
 
     // Whether the channel may stand in a record of that capacity.
+    #[tactic(auto, unfolding(crate::specs::Channels::good_channel))]
     pub fn good(self, capacity: usize) -> bool
         ensures { result ≡ good_channel capacity self }
     {
         if 32 < self.count {
             return false;
         }
-        let head = self.head;
-        if !head.good(capacity) {
-            return false;
-        }
-        if !self.good_phrases(capacity) {
-            return false;
-        }
-        self.good_voices()
+        self.head.good(capacity) && self.good_phrases(capacity) && self.good_voices()
     }
 }
 
+#[tactic(auto, unfolding(crate::specs::Channels::sped_of))]
 pub fn sped(v: Voice, note: Note, speed: f32) -> Voice
     ensures { result ≡ sped_of note speed v }
 {
-    let own = v.note;
-    if same_note(own, note) {
-        v.at_speed(speed)
-    } else {
-        v
-    }
+    if v.note == note { v.at_speed(speed) } else { v }
 }
 
 // What a voice's turn gives: the voice after it, whether it stays, and the output with what it adds.
@@ -1201,6 +1128,7 @@ fn take_turn(v: Voice, output: f32, at: Moment, params: Params, data: &[u32]) ->
 }
 
 // The output with the value of voice `v`, after its turn `w`. One that was to be removed is silent.
+#[tactic(auto, unfolding(crate::specs::Channels::added_of))]
 pub fn sound(output: f32, v: Voice, w: Voice, t: Tick) -> f32
     ensures { result ≡ added_of (should_remove_of t v) output w.last_sample_value }
 {

@@ -15,8 +15,8 @@ use Rattle.clip.specs.Refusals.{good_length, good_clip, clip_refused_at, data_to
 use Rattle.clip.specs.Bounds.{Sound, Within}
 use Rattle.clip.specs.declared.Mode.{Mode}
 use Rattle.clip.specs.declared.Clip.{Clip}
-use Rattle.clip.specs.declared.Found.TheVariants.{At}
-use Rattle.clip.specs.declared.FoundAnswer.TheVariants.{Done, Refused}
+use Rattle.std.specs.Prelude.{Some, Ok, Err}
+use Rattle.refusals.specs.declared.Refusal.TheVariants.{BadArgument}
 use Rattle.clip.proofs.Offsets.{clip_offset_fits, clip_offset_inside, offset_within}
 use Rattle.clip.proofs.WayBack.{never_missing}
 use Rattle.clip.proofs.Kept.{at_length_good}
@@ -44,25 +44,25 @@ answered c now h =
     passed false e = absurd (true≢false e)
 
 -- ---- the old offset asked for in an update
-pub asked : (c : Clip) (x : Float) → T (good_clip c) → Within x c.data_length → data_to_clip_of c x ≡ Done (found_at c x)
+pub asked : (c : Clip) (x : Float) → T (good_clip c) → Within x c.data_length → data_to_clip_of c x ≡ Ok (found_at c x)
 unfolding data_to_clip_of
 asked c x g w =
     let a : Bool = le zero32 x in
     let b : Bool = lt x c.data_length in
-    ap (λ (t : Bool). cond t (Done (found_at c x)) Refused) (is_true (good_clip c && (a && b)) (and_i (good_clip c) (a && b) g (and_i a b w.low w.high)))
+    ap (λ (t : Bool). cond t (Ok (found_at c x)) (Err BadArgument)) (is_true (good_clip c && (a && b)) (and_i (good_clip c) (a && b) g (and_i a b w.low w.high)))
 
 module _ (c : Clip) (now : ℕ) (h : Sound c) where
-  pub offset_found : found_at c (offset_at c now) ≡ At (back_of c (offset_at c now))
+  pub offset_found : found_at c (offset_at c now) ≡ Some (back_of c (offset_at c now))
   unfolding offset_at
   offset_found = never_missing c h (clip_offset_at c now) (clip_offset_fits c now) (clip_offset_inside c now h)
 
-  pub speed_found : (speed : Float) → data_to_clip_of (at_speed c speed) (offset_at c now) ≡ Done (At (back_of c (offset_at c now)))
+  pub speed_found : (speed : Float) → data_to_clip_of (at_speed c speed) (offset_at c now) ≡ Ok (Some (back_of c (offset_at c now)))
   unfolding good_clip found_at back_of
-  speed_found speed = asked (at_speed c speed) (offset_at c now) h.good (offset_within c now h) ∙ ap Done offset_found
+  speed_found speed = asked (at_speed c speed) (offset_at c now) h.good (offset_within c now h) ∙ ap Ok offset_found
 
-  pub mode_found : (mode : Mode) → data_to_clip_of (at_mode c mode) (offset_at c now) ≡ Done (At (back_of c (offset_at c now)))
+  pub mode_found : (mode : Mode) → data_to_clip_of (at_mode c mode) (offset_at c now) ≡ Ok (Some (back_of c (offset_at c now)))
   unfolding good_clip found_at back_of
-  mode_found mode = asked (at_mode c mode) (offset_at c now) h.good (offset_within c now h) ∙ ap Done offset_found
+  mode_found mode = asked (at_mode c mode) (offset_at c now) h.good (offset_within c now h) ∙ ap Ok offset_found
 
-  pub length_asked : (length : Float) → T (good_length length) → data_to_clip_of (at_length c length) (offset_at c now) ≡ Done (found_at (at_length c length) (offset_at c now))
+  pub length_asked : (length : Float) → T (good_length length) → data_to_clip_of (at_length c length) (offset_at c now) ≡ Ok (found_at (at_length c length) (offset_at c now))
   length_asked length l = asked (at_length c length) (offset_at c now) (at_length_good c length l h.good) (offset_within c now h)

@@ -13,8 +13,9 @@ use Rattle.clip.specs.Updates.{at_speed, at_mode, at_length, at_data_length, res
 use Rattle.clip.specs.Refusals.{good_length, good_clip, clip_refused_at, update_speed_of, update_mode_of, update_length_of, update_data_length_of, unless_refused, update_all_of, AnswerSkips, then_of, four_of}
 use Rattle.clip.specs.declared.Mode.{Mode}
 use Rattle.clip.specs.declared.Clip.{Clip}
-use Rattle.clip.specs.declared.ClipAnswer.{ClipAnswer}
-use Rattle.clip.specs.declared.ClipAnswer.TheVariants.{Done, Refused}
+use Rattle.std.specs.Prelude.{Result, Ok, Err}
+use Rattle.refusals.specs.declared.Refusal.{Refusal}
+use Rattle.refusals.specs.declared.Refusal.TheVariants.{BadArgument}
 use Rattle.clip.proofs.Lengths.{good_parts, parts_good}
 use Rattle.clip.proofs.Kept.{at_length_good, with_speed_since, with_length_since, with_data_length_since}
 use Rattle.clip.proofs.Answers.{answers, answered}
@@ -128,7 +129,7 @@ answer_skips c now length speed data_length mode =
       mode = λ e. ap answer (skips_mode c now length speed data_length mode e);
     }
   where
-    answer : Clip → ClipAnswer
+    answer : Clip → Result Clip Refusal
     answer = unless_refused c now length data_length
 
 -- ---- a clip that isn't refused is not refused after an update with good values, whatever its floats are
@@ -185,25 +186,25 @@ module _ (c : Clip) (now : ℕ) (length speed data_length : Float) (mode : Mode)
 
     -- from the speed on, by whether the data length is good
     from_speed : then_of (then_of (update_speed_of first now speed) (λ e. update_data_length_of e now data_length)) (λ e. update_mode_of e now mode)
-        ≡ then_of (cond (not (good_length data_length)) Refused (Done third)) (λ e. update_mode_of e now mode)
+        ≡ then_of (cond (not (good_length data_length)) (Err BadArgument) (Ok third)) (λ e. update_mode_of e now mode)
     unfolding update_speed_of update_data_length_of
     from_speed =
-        ap (λ (b : Bool). then_of (then_of (cond b Refused (Done second)) (λ e. update_data_length_of e now data_length)) (λ e. update_mode_of e now mode)) first_answers
-        ∙ ap (λ (b : Bool). then_of (cond (b || not (good_length data_length)) Refused (Done third)) (λ e. update_mode_of e now mode)) second_answers
+        ap (λ (b : Bool). then_of (then_of (cond b (Err BadArgument) (Ok second)) (λ e. update_data_length_of e now data_length)) (λ e. update_mode_of e now mode)) first_answers
+        ∙ ap (λ (b : Bool). then_of (cond (b || not (good_length data_length)) (Err BadArgument) (Ok third)) (λ e. update_mode_of e now mode)) second_answers
 
     to_mode : (b : Bool) → good_length data_length ≡ b
-        → cond (not b) Refused (Done (with_all c now length speed data_length mode)) ≡ then_of (cond (not b) Refused (Done third)) (λ e. update_mode_of e now mode)
+        → cond (not b) (Err BadArgument) (Ok (with_all c now length speed data_length mode)) ≡ then_of (cond (not b) (Err BadArgument) (Ok third)) (λ e. update_mode_of e now mode)
     unfolding update_mode_of
     to_mode false e = refl
-    to_mode true e = sym (ap (λ (b : Bool). cond b Refused (Done (with_mode third now mode))) (third_answers (yes e)))
+    to_mode true e = sym (ap (λ (b : Bool). cond b (Err BadArgument) (Ok (with_mode third now mode))) (third_answers (yes e)))
 
   pub at_once : update_all_of c now length speed data_length mode ≡ four_of c now length speed data_length mode
   unfolding update_all_of four_of update_length_of
   at_once = go (clip_refused_at c now) (good_length length) refl refl
     where
       go : (r a : Bool) → clip_refused_at c now ≡ r → good_length length ≡ a
-          → cond (r || not a || not (good_length data_length)) Refused (Done (with_all c now length speed data_length mode))
-          ≡ then_of (then_of (then_of (cond (r || not a) Refused (Done first)) (λ e. update_speed_of e now speed)) (λ e. update_data_length_of e now data_length)) (λ e. update_mode_of e now mode)
+          → cond (r || not a || not (good_length data_length)) (Err BadArgument) (Ok (with_all c now length speed data_length mode))
+          ≡ then_of (then_of (then_of (cond (r || not a) (Err BadArgument) (Ok first)) (λ e. update_speed_of e now speed)) (λ e. update_data_length_of e now data_length)) (λ e. update_mode_of e now mode)
       go true a e f = refl
       go false false e f = refl
       go false true e f = to_mode e (yes f) (good_length data_length) refl ∙ sym (from_speed e (yes f))

@@ -17,7 +17,7 @@ use Rattle.clip.specs.Positions.{clip_offset_at, clip_to_data_of, offset_at, sum
 use Rattle.clip.specs.Updates.{at_speed, at_mode, at_length, at_data_length, resumed, back_of, found_at, shift_for, settled_of, same_mode, with_speed, with_mode, with_length, with_data_length}
 use Rattle.clip.specs.Bounds.{Sound, FromPosition}
 use Rattle.clip.specs.declared.Clip.{Clip}
-use Rattle.clip.specs.declared.Found.TheVariants.{At, Nothing}
+use Rattle.std.specs.Prelude.{Some, None}
 use Rattle.clip.proofs.Lengths.{good_parts}
 use Rattle.clip.proofs.Offsets.{counts, clip_offset_fits, clip_offset_inside, offset_fits, offset_within}
 use Rattle.clip.proofs.Indices.{adds_up}
@@ -87,7 +87,7 @@ module _ (c : Clip) (now : ℕ) (h : Sound c) where
   settled_same : (d : Clip) → d.start ≡ c.start → settled_of d x now ≡ settled_of d sum now
   unfolding settled_of found_at
   settled_same d e =
-      ap (λ (y : Float). resumed d (shift_for d (cond (lt y d.length) (At y) Nothing) now) now) (sym (ap (back_of d) sum_is ∙ back_same d e))
+      ap (λ (y : Float). resumed d (shift_for d (cond (lt y d.length) (Some y) None) now) now) (sym (ap (back_of d) sum_is ∙ back_same d e))
 
   pub from_position : FromPosition c now
   unfolding with_speed with_mode with_length with_data_length

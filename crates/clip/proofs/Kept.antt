@@ -14,8 +14,7 @@ use Rattle.clip.specs.Refusals.{most32, good_length, good_clip}
 use Rattle.clip.specs.Bounds.{Sound}
 use Rattle.clip.specs.declared.Mode.{Mode}
 use Rattle.clip.specs.declared.Clip.{Clip}
-use Rattle.clip.specs.declared.Found.{Found}
-use Rattle.clip.specs.declared.Found.TheVariants.{At, Nothing}
+use Rattle.std.specs.Prelude.{Option, Some, None}
 use Rattle.clip.proofs.Lengths.{good_parts, parts_good}
 use Rattle.clip.proofs.Bounds.{mirrored_fits}
 
@@ -36,7 +35,7 @@ pub shift_fits : (c : Clip) (x : Float) (now : ℕ) → T (fits binary32 (shift_
 unfolding found_at shift_for
 shift_fits c x now =
     let y = back_of c x in
-    cond_split (λ (z : Found). T (fits binary32 (shift_for c z now))) (lt y c.length) (At y) Nothing
+    cond_split (λ (z : Option Float). T (fits binary32 (shift_for c z now))) (lt y c.length) (Some y) None
     (λ t. cond-fits binary32 (reversing_at c now) (mirrored_of y c.length) y (mirrored_fits y c.length) (back_fits c x))
     (λ t. zero-fits binary32 false)
 

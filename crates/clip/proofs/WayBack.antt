@@ -20,7 +20,7 @@ use Rattle.clip.specs.Positions.{clip_to_data_of}
 use Rattle.clip.specs.Updates.{back_of, found_at}
 use Rattle.clip.specs.Bounds.{Fitting, Sound, Inside}
 use Rattle.clip.specs.declared.Clip.{Clip}
-use Rattle.clip.specs.declared.Found.TheVariants.{At, Nothing}
+use Rattle.std.specs.Prelude.{Some, None}
 use Rattle.clip.proofs.Lengths.{units_lt, negative_lt}
 use Rattle.clip.proofs.Offsets.{Counts, counts, sum_under, data_units, data_fits}
 
@@ -94,8 +94,8 @@ module _ (c : Clip) (f : Fitting c) (p : Float) (k : Counts c p) where
   back_below = cond_split (λ (z : Float). T (lt z c.length)) (le c.start x) (sub binary32 x c.start) (sub binary32 (add binary32 x c.data_length) c.start) ahead behind
 
 pub never_missing : (c : Clip) → Sound c → (p : Float) → T (fits binary32 p) → Inside p c.length
-    → found_at c (clip_to_data_of c p) ≡ At (back_of c (clip_to_data_of c p))
+    → found_at c (clip_to_data_of c p) ≡ Some (back_of c (clip_to_data_of c p))
 unfolding found_at
 never_missing c h p t i =
     let y = back_of c (clip_to_data_of c p) in
-    ap (λ (b : Bool). cond b (At y) Nothing) (is_true (lt y c.length) (back_below c h.fitting p (counts c h p t i)))
+    ap (λ (b : Bool). cond b (Some y) None) (is_true (lt y c.length) (back_below c h.fitting p (counts c h p t i)))

@@ -1,7 +1,7 @@
 -- How a clip is made and changes (document 01, module 4): an equal value changes nothing; otherwise the old offset is
 -- read first, then the field set, then the shift found, the reversing test still using the old `since` and shift, and
 -- `since` last. Each definition takes every clip and every value. Definitions only. Assumes nothing.
-use Rattle.std.specs.Prelude.{ℕ, Bool, true, false, ◌&&◌, cond, Float}
+use Rattle.std.specs.Prelude.{ℕ, Bool, true, false, ◌&&◌, cond, Float, Option, Some, None}
 use Rattle.std.specs.Float.{binary32}
 use Rattle.std.specs.Float.Ieee.{add, sub, lt, le, eq}
 use Rattle.binary32.specs.Leaves.{zero32}
@@ -9,8 +9,6 @@ use Rattle.clip.specs.Positions.{travel_at, round_trip_of, mirrored_of, offset_a
 use Rattle.clip.specs.declared.Mode.{Mode}
 use Rattle.clip.specs.declared.Mode.TheVariants.{Loop, PingPong}
 use Rattle.clip.specs.declared.Clip.{Clip}
-use Rattle.clip.specs.declared.Found.{Found}
-use Rattle.clip.specs.declared.Found.TheVariants.{At, Nothing}
 
 unfoldable pub made_of : ℕ → Float → Float → Float → Float → Mode → Clip
 made_of since start speed length data_length
@@ -94,17 +92,17 @@ back_of c x = cond (le c.start x) (sub binary32 x c.start)
     (sub binary32 (add binary32 x c.data_length) c.start)
 
 -- the place in the clip of a place in the data, if it is below the length
-unfoldable pub found_at : Clip → Float → Found
-found_at c x = cond (lt (back_of c x) c.length) (At (back_of c x)) Nothing
+unfoldable pub found_at : Clip → Float → Option Float
+found_at c x = cond (lt (back_of c x) c.length) (Some (back_of c x)) None
 
 -- whether a ping-pong clip is on its way back
 unfoldable pub reversing_at : Clip → ℕ → Bool
 reversing_at c now = elim
     c.mode [ Loop ↦ false | PingPong ↦ le c.length (round_trip_of (travel_at c now) c.length) ]
 
-unfoldable pub shift_for : Clip → Found → ℕ → Float
-shift_for c (At y) now = cond (reversing_at c now) (mirrored_of y c.length) y
-shift_for c Nothing now = zero32
+unfoldable pub shift_for : Clip → Option Float → ℕ → Float
+shift_for c (Some y) now = cond (reversing_at c now) (mirrored_of y c.length) y
+shift_for c None now = zero32
 
 -- the clip with its field set, and still its old shift and `since`, goes on from the old offset
 unfoldable pub settled_of : Clip → Float → ℕ → Clip

@@ -42,8 +42,8 @@ ghost use Rattle.clip.specs.Updates.{
   found_at,
   reversing_at,
   shift_for,
+  resumed,
   settled_of,
-  same_mode,
   with_speed,
   with_mode,
   with_length,
@@ -72,10 +72,12 @@ ghost use Rattle.clip.specs.Refusals.{
   update_all_of,
 };
 
+use refusals::Refusal;
+
 // A place or a length in samples.
 pub type T = f32;
 
-#[derive(Clone, Copy)]
+#[derive(Clone, Copy, PartialEq, Eq)]
 pub enum Mode {
     Loop,
     PingPong,
@@ -90,13 +92,6 @@ pub struct Clip {
     pub data_length: T,
     pub shift: T,
     pub mode: Mode,
-}
-
-// Where a position in the data lies in a clip.
-#[derive(Clone, Copy)]
-pub enum Found {
-    At(f32),
-    Nothing,
 }
 
 // An offset in the data: its whole part, which is the sample there, and what remains. The two add up to it.
@@ -130,43 +125,8 @@ struct Standing {
     elapsed: f32,
 }
 
-#[derive(Clone, Copy)]
-pub enum ClipAnswer {
-    Done(Clip),
-    Refused,
-}
-
-#[derive(Clone, Copy)]
-pub enum FoundAnswer {
-    Done(Found),
-    Refused,
-}
-
-#[derive(Clone, Copy)]
-pub enum PlaceAnswer {
-    Done(f32),
-    Refused,
-}
-
-#[derive(Clone, Copy)]
-pub enum PositionAnswer {
-    Done(Position),
-    Refused,
-}
-
-#[derive(Clone, Copy)]
-pub enum ElapsedAnswer {
-    Done(usize),
-    Refused,
-}
-
-#[derive(Clone, Copy)]
-pub enum ReversingAnswer {
-    Done(bool),
-    Refused,
-}
-
 // The answer of `quick_index` and `quick_next` that is no index.
+// No Option: an index stays in one word on the quick way, as its callers test it (speed).
 pub const NONE: usize = usize::MAX;
 
 // 2^48.
@@ -241,12 +201,14 @@ fn folded(y: f32, length: f32) -> f32
     }
 }
 
+#[tactic(auto, unfolding(crate::specs::Positions::bounced_of))]
 fn bounced(x: f32, length: f32) -> f32
     ensures { result ≡ bounced_of x length }
 {
     folded(round_trip(x, length), length)
 }
 
+#[tactic(auto, unfolding(crate::specs::Positions::wrapped_of))]
 fn wrapped(mode: Mode, x: f32, length: f32) -> f32
     ensures { result ≡ wrapped_of mode x length }
 {
@@ -262,6 +224,7 @@ fn clamped(y: f32, length: f32) -> f32
     binary32::min(y, length - 1.0)
 }
 
+#[tactic(auto, unfolding(crate::specs::Positions::placed_of))]
 fn placed(mode: Mode, x: f32, length: f32) -> f32
     ensures { result ≡ placed_of mode x length }
 {
@@ -336,21 +299,6 @@ fn quick_whole(s: f32, length: f32) -> usize
     }
 }
 
-pub fn same_mode(a: Mode, b: Mode) -> bool
-    ensures { result ≡ same_mode a b }
-{
-    match a {
-        Mode::Loop => match b {
-            Mode::Loop => true,
-            Mode::PingPong => false,
-        },
-        Mode::PingPong => match b {
-            Mode::Loop => false,
-            Mode::PingPong => true,
-        },
-    }
-}
-
 fn good_length(length: f32) -> bool
     ensures { result ≡ good_length length }
 {
@@ -372,6 +320,7 @@ fn higher(a: f32, b: f32) -> f32
 }
 
 // Whether x is a whole number from low to top.
+#[tactic(auto, unfolding(binary32::specs::Wholes::is_whole_in))]
 pub fn whole_in(low: usize, top: usize, x: f32) -> bool
     ensures { result ≡ is_whole_in low top x }
 {
@@ -389,6 +338,7 @@ impl Position {
         }
     }
 
+    #[tactic(auto, unfolding(crate::specs::Positions::sum_of))]
     pub fn sum(self) -> f32
         ensures { result ≡ sum_of self }
     {
@@ -422,13 +372,13 @@ impl Clip {
     }
 
     // Whether it is of request 8/12's profile: its positions are then whole numbers, up to an elapsed count of 2^24.
+    #[tactic(auto, unfolding(crate::specs::Plain::is_plain))]
     pub fn is_plain(self) -> bool
         ensures { result ≡ is_plain self }
     {
-        let mode = self.mode;
         let start = binary32::f32_to_usize(self.start);
         let inside = start <= binary32::f32_to_usize(self.data_length);
-        same_mode(mode, Mode::Loop)
+        (self.mode == Mode::Loop)
             & ((self.shift == 0.0)
                 & ((self.speed == 1.0)
                     & (whole_in(0, 0x40_0000, self.start)
@@ -437,6 +387,7 @@ impl Clip {
     }
 
     // Whether number 7 refuses this clip at this time.
+    #[tactic(auto, unfolding(crate::specs::Refusals::clip_refused_at))]
     fn refused_at(self, now: usize) -> bool
         ensures { result ≡ clip_refused_at self now }
     {
@@ -467,13 +418,10 @@ impl Clip {
     pub fn elapsed_at(self, now: usize) -> usize
         ensures { result ≡ elapsed_at self now }
     {
-        if now < self.since {
-            0
-        } else {
-            now - self.since
-        }
+        now.saturating_sub(self.since)
     }
 
+    #[tactic(auto, unfolding(crate::specs::Positions::standing_of))]
     fn standing_at(self, now: usize) -> Standing
         ensures { result ≡ standing_of self now }
     {
@@ -484,6 +432,7 @@ impl Clip {
         }
     }
 
+    #[tactic(auto, using(crate::proofs::Standings::standing_stands), unfolding(crate::specs::Positions::standing_of))]
     pub fn clip_offset_at(self, now: usize) -> f32
         ensures { result ≡ clip_offset_at self now }
     {
@@ -503,12 +452,14 @@ impl Clip {
         }
     }
 
+    #[tactic(auto, using(crate::proofs::Standings::standing_stands), unfolding(crate::specs::Positions::standing_of))]
     pub fn offset_at(self, now: usize) -> Position
         ensures { result ≡ position_at self now }
     {
         self.standing_at(now).position()
     }
 
+    #[tactic(auto, unfolding(crate::specs::Positions::position_of, crate::specs::Positions::index_at))]
     pub fn index_at(self, now: usize) -> usize
         ensures { result ≡ index_at self now }
     {
@@ -516,12 +467,14 @@ impl Clip {
     }
 
     // The next index: that of one sample on.
+    #[tactic(auto, using(crate::proofs::Standings::standing_stands), unfolding(crate::specs::Positions::standing_of))]
     pub fn next_at(self, now: usize) -> usize
         ensures { result ≡ next_at self now }
     {
         self.standing_at(now).next()
     }
 
+    #[tactic(auto, unfolding(crate::specs::Updates::back_of))]
     fn back(self, x: f32) -> f32
         ensures { result ≡ back_of self x }
     {
@@ -532,41 +485,43 @@ impl Clip {
         }
     }
 
-    pub fn found_at(self, x: f32) -> Found
+    #[tactic(auto, unfolding(crate::specs::Updates::found_at))]
+    pub fn found_at(self, x: f32) -> Option<f32>
         ensures { result ≡ found_at self x }
     {
         let y = self.back(x);
-        if y < self.length {
-            Found::At(y)
-        } else {
-            Found::Nothing
-        }
+        if y < self.length { Some(y) } else { None }
     }
 
+    #[tactic(auto, using(crate::proofs::Standings::standing_stands), unfolding(crate::specs::Positions::standing_of))]
     pub fn reversing_at(self, now: usize) -> bool
         ensures { result ≡ reversing_at self now }
     {
         self.standing_at(now).reversing()
     }
 
+    #[tactic(auto, using(crate::proofs::Standings::standing_stands), unfolding(crate::specs::Positions::standing_of))]
     pub fn with_speed(self, now: usize, speed: f32) -> Clip
         ensures { result ≡ with_speed self now speed }
     {
         self.standing_at(now).paced(speed).clip
     }
 
+    #[tactic(auto, using(crate::proofs::Standings::standing_stands), unfolding(crate::specs::Positions::standing_of))]
     pub fn with_mode(self, now: usize, mode: Mode) -> Clip
         ensures { result ≡ with_mode self now mode }
     {
         self.standing_at(now).turned(mode).clip
     }
 
+    #[tactic(auto, using(crate::proofs::Standings::standing_stands), unfolding(crate::specs::Positions::standing_of))]
     pub fn with_length(self, now: usize, length: f32) -> Clip
         ensures { result ≡ with_length self now length }
     {
         self.standing_at(now).sized(length).clip
     }
 
+    #[tactic(auto, using(crate::proofs::Standings::standing_stands), unfolding(crate::specs::Positions::standing_of))]
     pub fn with_data_length(self, now: usize, data_length: f32) -> Clip
         ensures { result ≡ with_data_length self now data_length }
     {
@@ -576,24 +531,15 @@ impl Clip {
     fn same_values(self, length: f32, speed: f32, data_length: f32) -> bool
         ensures { result ≡ same_values self length speed data_length }
     {
-        if length != self.length {
-            return false;
-        }
-        if speed != self.speed {
-            return false;
-        }
-        data_length == self.data_length
+        length == self.length && speed == self.speed && data_length == self.data_length
     }
 
     // Whether each of the four parts of an update would be skipped.
+    #[tactic(auto, unfolding(crate::specs::Updates::same_all))]
     pub fn same_all(self, length: f32, speed: f32, data_length: f32, mode: Mode) -> bool
         ensures { result ≡ same_all self length speed data_length mode }
     {
-        if self.same_values(length, speed, data_length) {
-            let old = self.mode;
-            return same_mode(mode, old);
-        }
-        false
+        self.same_values(length, speed, data_length) && mode == self.mode
     }
 
     // The four parts in their order. A clip that none of them changes, as it is at most samples, is told in front.
@@ -611,6 +557,7 @@ impl Clip {
             .turned(mode)
     }
 
+    #[tactic(auto, using(crate::proofs::Standings::standing_stands), unfolding(crate::specs::Positions::standing_of))]
     pub fn with_all(self, now: usize, length: f32, speed: f32, data_length: f32, mode: Mode) -> Clip
         ensures { result ≡ with_all self now length speed data_length mode }
     {
@@ -629,10 +576,9 @@ impl Clip {
         ensures { result ≡ sounding_of (with_all self now length speed data_length mode) now smooth }
     {
         let moved = self.moved_at(now, length, speed, data_length, mode);
-        let clip = moved.clip;
         let position = moved.position();
         Sounding {
-            clip,
+            clip: moved.clip,
             position,
             next: moved.beside(position.index, smooth),
         }
@@ -659,8 +605,7 @@ impl Clip {
         ensures { QuickIndex self now length speed data_length mode result }
     {
         if self.same_values(length, speed, data_length) & (length > 0.0) {
-            let old = self.mode;
-            let y = quick_wrapped(mode, old, self.quick_travel(now), length);
+            let y = quick_wrapped(mode, self.mode, self.quick_travel(now), length);
             if y >= 0.0 {
                 let offset = quick_rem(self.start + clamped(y, length), data_length);
                 if offset >= 0.0 {
@@ -691,6 +636,7 @@ impl Clip {
         NONE
     }
 
+    #[tactic(auto, unfolding(crate::specs::Refusals::new_clip_of))]
     pub fn new(
         since: usize,
         start: f32,
@@ -698,107 +644,89 @@ impl Clip {
         length: f32,
         data_length: f32,
         mode: Mode,
-    ) -> ClipAnswer
+    ) -> Result<Clip, Refusal>
         ensures { result ≡ new_clip_of since start speed length data_length mode }
     {
         let clip = Clip::made(since, start, speed, length, data_length, mode);
-        if clip.refused_at(since) {
-            ClipAnswer::Refused
-        } else {
-            ClipAnswer::Done(clip)
-        }
+        Refusal::BadArgument.when(clip.refused_at(since))?;
+        Ok(clip)
     }
 
-    pub fn data_to_clip(self, x: f32) -> FoundAnswer
+    pub fn data_to_clip(self, x: f32) -> Result<Option<f32>, Refusal>
         ensures { result ≡ data_to_clip_of self x }
     {
         if self.good() & ((0.0 <= x) & (x < self.data_length)) {
-            FoundAnswer::Done(self.found_at(x))
+            Ok(self.found_at(x))
         } else {
-            FoundAnswer::Refused
+            Err(Refusal::BadArgument)
         }
     }
 
-    pub fn is_pingpong_reversing(self, now: usize) -> ReversingAnswer
+    #[tactic(auto, unfolding(crate::specs::Refusals::is_pingpong_reversing_of))]
+    pub fn is_pingpong_reversing(self, now: usize) -> Result<bool, Refusal>
         ensures { result ≡ is_pingpong_reversing_of self now }
     {
-        if self.refused_at(now) {
-            ReversingAnswer::Refused
-        } else {
-            ReversingAnswer::Done(self.reversing_at(now))
-        }
+        Refusal::BadArgument.when(self.refused_at(now))?;
+        Ok(self.reversing_at(now))
     }
 
-    pub fn elapsed(self, now: usize) -> ElapsedAnswer
+    #[tactic(auto, unfolding(crate::specs::Refusals::elapsed_of))]
+    pub fn elapsed(self, now: usize) -> Result<usize, Refusal>
         ensures { result ≡ elapsed_of self now }
     {
-        if self.refused_at(now) {
-            ElapsedAnswer::Refused
-        } else {
-            ElapsedAnswer::Done(self.elapsed_at(now))
-        }
+        Refusal::BadArgument.when(self.refused_at(now))?;
+        Ok(self.elapsed_at(now))
     }
 
-    pub fn clip_offset(self, now: usize) -> PlaceAnswer
+    #[tactic(auto, unfolding(crate::specs::Refusals::clip_offset_of))]
+    pub fn clip_offset(self, now: usize) -> Result<f32, Refusal>
         ensures { result ≡ clip_offset_of self now }
     {
-        if self.refused_at(now) {
-            PlaceAnswer::Refused
-        } else {
-            PlaceAnswer::Done(self.clip_offset_at(now))
-        }
+        Refusal::BadArgument.when(self.refused_at(now))?;
+        Ok(self.clip_offset_at(now))
     }
 
-    pub fn offset(self, now: usize) -> PositionAnswer
+    #[tactic(auto, unfolding(crate::specs::Refusals::offset_of))]
+    pub fn offset(self, now: usize) -> Result<Position, Refusal>
         ensures { result ≡ offset_of self now }
     {
-        if self.refused_at(now) {
-            PositionAnswer::Refused
-        } else {
-            PositionAnswer::Done(self.offset_at(now))
-        }
+        Refusal::BadArgument.when(self.refused_at(now))?;
+        Ok(self.offset_at(now))
     }
 
-    pub fn update_speed(self, now: usize, speed: f32) -> ClipAnswer
+    #[tactic(auto, unfolding(crate::specs::Refusals::update_speed_of))]
+    pub fn update_speed(self, now: usize, speed: f32) -> Result<Clip, Refusal>
         ensures { result ≡ update_speed_of self now speed }
     {
-        if self.refused_at(now) {
-            ClipAnswer::Refused
-        } else {
-            ClipAnswer::Done(self.with_speed(now, speed))
-        }
+        Refusal::BadArgument.when(self.refused_at(now))?;
+        Ok(self.with_speed(now, speed))
     }
 
-    pub fn update_mode(self, now: usize, mode: Mode) -> ClipAnswer
+    #[tactic(auto, unfolding(crate::specs::Refusals::update_mode_of))]
+    pub fn update_mode(self, now: usize, mode: Mode) -> Result<Clip, Refusal>
         ensures { result ≡ update_mode_of self now mode }
     {
-        if self.refused_at(now) {
-            ClipAnswer::Refused
-        } else {
-            ClipAnswer::Done(self.with_mode(now, mode))
-        }
+        Refusal::BadArgument.when(self.refused_at(now))?;
+        Ok(self.with_mode(now, mode))
     }
 
-    pub fn update_length(self, now: usize, length: f32) -> ClipAnswer
+    #[tactic(auto, unfolding(crate::specs::Refusals::update_length_of))]
+    pub fn update_length(self, now: usize, length: f32) -> Result<Clip, Refusal>
         ensures { result ≡ update_length_of self now length }
     {
-        if self.refused_at(now) | !good_length(length) {
-            ClipAnswer::Refused
-        } else {
-            ClipAnswer::Done(self.with_length(now, length))
-        }
+        Refusal::BadArgument.when(self.refused_at(now) || !good_length(length))?;
+        Ok(self.with_length(now, length))
     }
 
-    pub fn update_data_length(self, now: usize, data_length: f32) -> ClipAnswer
+    #[tactic(auto, unfolding(crate::specs::Refusals::update_data_length_of))]
+    pub fn update_data_length(self, now: usize, data_length: f32) -> Result<Clip, Refusal>
         ensures { result ≡ update_data_length_of self now data_length }
     {
-        if self.refused_at(now) | !good_length(data_length) {
-            ClipAnswer::Refused
-        } else {
-            ClipAnswer::Done(self.with_data_length(now, data_length))
-        }
+        Refusal::BadArgument.when(self.refused_at(now) || !good_length(data_length))?;
+        Ok(self.with_data_length(now, data_length))
     }
 
+    #[tactic(auto, unfolding(crate::specs::Refusals::update_all_of))]
     pub fn update_all(
         self,
         now: usize,
@@ -806,41 +734,39 @@ impl Clip {
         speed: f32,
         data_length: f32,
         mode: Mode,
-    ) -> ClipAnswer
+    ) -> Result<Clip, Refusal>
         ensures { result ≡ update_all_of self now length speed data_length mode }
     {
-        if self.refused_at(now) | !good_length(length) | !good_length(data_length) {
-            ClipAnswer::Refused
-        } else {
-            ClipAnswer::Done(self.with_all(now, length, speed, data_length, mode))
-        }
+        Refusal::BadArgument.when(
+            self.refused_at(now) || !good_length(length) || !good_length(data_length),
+        )?;
+        Ok(self.with_all(now, length, speed, data_length, mode))
     }
 }
 
 impl Standing {
+    #[tactic(auto, unfolding(crate::specs::Positions::travel_at))]
     fn travel(self) -> f32
         requires { StandsNow self }
         ensures { result ≡ travel_at self.clip self.now }
     {
-        let clip = self.clip;
-        clip.shift + (self.elapsed + lead(clip.speed)) * clip.speed
+        self.clip.shift + (self.elapsed + lead(self.clip.speed)) * self.clip.speed
     }
 
+    #[tactic(auto, unfolding(crate::specs::Positions::clip_offset_at))]
     fn place(self) -> f32
         requires { StandsNow self }
         ensures { result ≡ clip_offset_at self.clip self.now }
     {
-        let clip = self.clip;
-        let mode = clip.mode;
-        placed(mode, self.travel(), clip.length)
+        placed(self.clip.mode, self.travel(), self.clip.length)
     }
 
+    #[tactic(auto, unfolding(crate::specs::Positions::offset_at))]
     fn offset(self) -> f32
         requires { StandsNow self }
         ensures { result ≡ offset_at self.clip self.now }
     {
-        let clip = self.clip;
-        clip.clip_to_data(self.place())
+        self.clip.clip_to_data(self.place())
     }
 
     fn position(self) -> Position
@@ -854,10 +780,9 @@ impl Standing {
         requires { StandsNow self }
         ensures { result ≡ next_at self.clip self.now }
     {
-        let clip = self.clip;
-        let mode = clip.mode;
-        let place = placed(mode, ahead(self.travel(), clip.speed), clip.length);
-        binary32::f32_to_usize(clip.clip_to_data(place))
+        let further = ahead(self.travel(), self.clip.speed);
+        let place = placed(self.clip.mode, further, self.clip.length);
+        binary32::f32_to_usize(self.clip.clip_to_data(place))
     }
 
     // The next index where it is asked for, else the one given.
@@ -868,30 +793,44 @@ impl Standing {
         if smooth { self.next() } else { index }
     }
 
+    #[tactic(auto, unfolding(crate::specs::Updates::reversing_at))]
     fn reversing(self) -> bool
         requires { StandsNow self }
         ensures { result ≡ reversing_at self.clip self.now }
     {
-        let clip = self.clip;
-        let mode = clip.mode;
-        match mode {
+        match self.clip.mode {
             Mode::Loop => false,
-            Mode::PingPong => round_trip(self.travel(), clip.length) >= clip.length,
+            Mode::PingPong => round_trip(self.travel(), self.clip.length) >= self.clip.length,
         }
     }
 
-    fn shift_for(self, found: Found) -> f32
+    #[tactic(auto, unfolding(crate::specs::Updates::shift_for))]
+    fn shift_for(self, found: Option<f32>) -> f32
         requires { StandsNow self }
         ensures { result ≡ shift_for self.clip found self.now }
     {
-        let clip = self.clip;
         match found {
-            Found::At(y) => if self.reversing() {
-                mirrored(y, clip.length)
+            Some(y) => if self.reversing() {
+                mirrored(y, self.clip.length)
             } else {
                 y
             },
-            Found::Nothing => 0.0,
+            None => 0.0,
+        }
+    }
+
+    // The clip goes on from that place at this time.
+    fn resumed(self, shift: f32) -> Standing
+        ensures { result ≡ standing_of (resumed self.clip shift self.now) self.now }
+    {
+        Standing {
+            clip: Clip {
+                since: self.now,
+                shift,
+                ..self.clip
+            },
+            now: self.now,
+            elapsed: 0.0,
         }
     }
 
@@ -900,99 +839,75 @@ impl Standing {
         requires { StandsNow self }
         ensures { result ≡ standing_of (settled_of self.clip offset self.now) self.now }
     {
-        let mut clip = self.clip;
-        let shift = self.shift_for(clip.found_at(offset));
-        clip.shift = shift;
-        clip.since = self.now;
-        Standing {
-            clip,
-            now: self.now,
-            elapsed: 0.0,
-        }
+        self.resumed(self.shift_for(self.clip.found_at(offset)))
     }
 
+    #[tactic(auto, using(crate::proofs::Standings::standing_is, crate::proofs::AtOnce::speed_skipped), unfolding(crate::specs::Updates::with_speed))]
     fn paced(self, speed: f32) -> Standing
         requires { StandsNow self }
         ensures { result ≡ standing_of (with_speed self.clip self.now speed) self.now }
     {
-        let mut clip = self.clip;
-        if speed == clip.speed {
+        if speed == self.clip.speed {
             return self;
         }
-        clip.speed = speed;
         let paced = Standing {
-            clip,
-            now: self.now,
-            elapsed: self.elapsed,
+            clip: Clip { speed, ..self.clip },
+            ..self
         };
         paced.settled(self.offset())
     }
 
+    #[tactic(auto, using(crate::proofs::Standings::standing_is, crate::proofs::AtOnce::mode_skipped), unfolding(crate::specs::Updates::with_mode))]
     fn turned(self, mode: Mode) -> Standing
         requires { StandsNow self }
         ensures { result ≡ standing_of (with_mode self.clip self.now mode) self.now }
     {
-        let old = self.clip;
-        let was = old.mode;
-        if same_mode(mode, was) {
+        if mode == self.clip.mode {
             return self;
         }
-        let clip = Clip {
-            since: old.since,
-            start: old.start,
-            speed: old.speed,
-            length: old.length,
-            data_length: old.data_length,
-            shift: old.shift,
-            mode,
-        };
         let turned = Standing {
-            clip,
-            now: self.now,
-            elapsed: self.elapsed,
+            clip: Clip { mode, ..self.clip },
+            ..self
         };
         turned.settled(self.offset())
     }
 
+    #[tactic(auto, using(crate::proofs::Standings::standing_is, crate::proofs::AtOnce::length_skipped), unfolding(crate::specs::Updates::with_length))]
     fn sized(self, length: f32) -> Standing
         requires { StandsNow self }
         ensures { result ≡ standing_of (with_length self.clip self.now length) self.now }
     {
-        let mut clip = self.clip;
-        if length == clip.length {
+        if length == self.clip.length {
             return self;
         }
-        clip.length = length;
         let sized = Standing {
-            clip,
-            now: self.now,
-            elapsed: self.elapsed,
+            clip: Clip {
+                length,
+                ..self.clip
+            },
+            ..self
         };
         sized.settled(self.offset())
     }
 
+    #[tactic(auto, using(crate::proofs::Standings::standing_is, crate::proofs::AtOnce::data_length_skipped))]
     fn cut(self, data_length: f32) -> Standing
         requires { StandsNow self }
         ensures { result ≡ standing_of (with_data_length self.clip self.now data_length) self.now }
     {
-        let mut clip = self.clip;
-        if data_length == clip.data_length {
+        if data_length == self.clip.data_length {
             return self;
         }
-        clip.data_length = data_length;
+        let cut = Standing {
+            clip: Clip {
+                data_length,
+                ..self.clip
+            },
+            ..self
+        };
         if self.offset() >= data_length {
-            clip.shift = 0.0;
-            clip.since = self.now;
-            return Standing {
-                clip,
-                now: self.now,
-                elapsed: 0.0,
-            };
+            return cut.resumed(0.0);
         }
-        Standing {
-            clip,
-            now: self.now,
-            elapsed: self.elapsed,
-        }
+        cut
     }
 }

@@ -9,7 +9,8 @@ use Rattle.binary32.specs.Leaves.{as_float, float_of, floor_of, max_of}
 use Rattle.common_types.specs.declared.Transport.{Transport}
 use Rattle.common_types.specs.declared.Params.{Params}
 use Rattle.common_types.specs.declared.LoopMode.TheVariants.{PingPong}
-use Rattle.common_types.specs.declared.LoopModeAnswer.TheVariants.{Done, Refused}
+use Rattle.std.specs.Prelude.{Ok, Err}
+use Rattle.refusals.specs.declared.Refusal.TheVariants.{BadArgument}
 use Rattle.common_types.specs.declared.time_value.TimeOrRatio.TheVariants.{Time, WholeBars}
 use Rattle.common_types.specs.declared.time_value.TimeValue.TheVariants.{Samples, Bars}
 use Rattle.common_types.specs.Modes.{index_from_f32_of, loop_mode_from_f32_of}
@@ -72,6 +73,6 @@ unfolding barring
 not_four_times = (refl, refl)
 
 -- ---- a dial: 1 reaches 3, and the float below it does not
-pub dial_end : (loop_mode_from_f32_of (float_of 0x3f80_0000) ≡ Refused) × (loop_mode_from_f32_of (float_of 0x3f7f_ffff) ≡ Done PingPong)
+pub dial_end : (loop_mode_from_f32_of (float_of 0x3f80_0000) ≡ Err BadArgument) × (loop_mode_from_f32_of (float_of 0x3f7f_ffff) ≡ Ok PingPong)
 unfolding index_from_f32_of floor_of mul of_bits of_int to_unsigned
 dial_end = (refl, refl)

@@ -9,13 +9,14 @@ use borrow.Author.Tests.{le-ltb}
 use lib.Ieee.{Float, nan, inf, fin, binary32, up, down, add, mul, div, of_int, to_unsigned}
 use Rattle.binary32.specs.Leaves.{as_float, floor_of, sign_of}
 use Rattle.binary32.proofs.Rounding.{round_sign}
+use Rattle.std.specs.Prelude.{Ok, Err}
+use Rattle.refusals.specs.Refusals.{code_of}
+use Rattle.refusals.specs.declared.Refusal.TheVariants.{BadArgument}
 use Rattle.common_types.specs.declared.LoopMode.{LoopMode}
 use Rattle.common_types.specs.declared.LoopMode.TheVariants.{PlayOnce, Loop, PingPong}
-use Rattle.common_types.specs.declared.LoopModeAnswer.TheVariants as loop_mode
 use Rattle.common_types.specs.declared.NoteOffBehaviour.{NoteOffBehaviour}
 use Rattle.common_types.specs.declared.NoteOffBehaviour.TheVariants.{Decay, ZeroCrossing, DecayAndZeroCrossing}
-use Rattle.common_types.specs.declared.NoteOffBehaviourAnswer.TheVariants as note_off
-use Rattle.common_types.specs.Modes.{by_index, index_to_f32_of, index_from_f32_of, loop_mode_to_index_of, loop_mode_from_index_of, loop_mode_to_f32_of, loop_mode_from_f32_of, note_off_to_index_of, note_off_from_index_of, note_off_to_f32_of, note_off_from_f32_of, loop_mode_number, note_off_number}
+use Rattle.common_types.specs.Modes.{by_index, index_to_f32_of, index_from_f32_of, loop_mode_to_index_of, loop_mode_from_index_of, loop_mode_to_f32_of, loop_mode_from_f32_of, note_off_to_index_of, note_off_from_index_of, note_off_to_f32_of, note_off_from_f32_of}
 
 pub by_index_other : {A : Type 0} (a b c other : A) (i : ℕ) → (i ≡ 0 → ⊥) → (i ≡ 1 → ⊥) → (i ≡ 2 → ⊥) → by_index a b c other i ≡ other
 by_index_other a b c other zero p q r = absurd (p refl)
@@ -36,12 +37,12 @@ seven_from_three (suc zero) = refl
 seven_from_three (suc (suc zero)) = refl
 seven_from_three (suc (suc (suc i))) = rw (le-ltb (suc (suc (suc i))) 3 (omega arith))
 
-pub loop_mode_number_lem : (i : ℕ) → loop_mode_number (loop_mode_from_index_of i) ≡ cond (ltb i 3) 0 7
-loop_mode_number_lem i = by_index_of loop_mode_number (loop_mode.Done PlayOnce) (loop_mode.Done Loop) (loop_mode.Done PingPong) loop_mode.Refused i ∙ seven_from_three i
+pub loop_mode_number_lem : (i : ℕ) → code_of (loop_mode_from_index_of i) ≡ cond (ltb i 3) 0 7
+loop_mode_number_lem i = by_index_of code_of (Ok PlayOnce) (Ok Loop) (Ok PingPong) (Err BadArgument) i ∙ seven_from_three i
 
-pub note_off_number_lem : (i : ℕ) → note_off_number (note_off_from_index_of i) ≡ cond (ltb i 3) 0 7
+pub note_off_number_lem : (i : ℕ) → code_of (note_off_from_index_of i) ≡ cond (ltb i 3) 0 7
 note_off_number_lem i =
-    by_index_of note_off_number (note_off.Done Decay) (note_off.Done ZeroCrossing) (note_off.Done DecayAndZeroCrossing) note_off.Refused i ∙ seven_from_three i
+    by_index_of code_of (Ok Decay) (Ok ZeroCrossing) (Ok DecayAndZeroCrossing) (Err BadArgument) i ∙ seven_from_three i
 
 -- ---- back from the index and from the float
 pub index_back : (i : ℕ) → i < 3 → index_from_f32_of (index_to_f32_of i 3) 3 ≡ i
@@ -56,12 +57,12 @@ loop_mode_below PlayOnce = lit< tt
 loop_mode_below Loop = lit< tt
 loop_mode_below PingPong = lit< tt
 
-pub loop_mode_of_index : (m : LoopMode) → loop_mode_from_index_of (loop_mode_to_index_of m) ≡ loop_mode.Done m
+pub loop_mode_of_index : (m : LoopMode) → loop_mode_from_index_of (loop_mode_to_index_of m) ≡ Ok m
 loop_mode_of_index PlayOnce = refl
 loop_mode_of_index Loop = refl
 loop_mode_of_index PingPong = refl
 
-pub loop_mode_of_float : (m : LoopMode) → loop_mode_from_f32_of (loop_mode_to_f32_of m) ≡ loop_mode.Done m
+pub loop_mode_of_float : (m : LoopMode) → loop_mode_from_f32_of (loop_mode_to_f32_of m) ≡ Ok m
 loop_mode_of_float m = ap loop_mode_from_index_of (index_back (loop_mode_to_index_of m) (loop_mode_below m)) ∙ loop_mode_of_index m
 
 pub note_off_below : (b : NoteOffBehaviour) → note_off_to_index_of b < 3
@@ -69,12 +70,12 @@ note_off_below Decay = lit< tt
 note_off_below ZeroCrossing = lit< tt
 note_off_below DecayAndZeroCrossing = lit< tt
 
-pub note_off_of_index : (b : NoteOffBehaviour) → note_off_from_index_of (note_off_to_index_of b) ≡ note_off.Done b
+pub note_off_of_index : (b : NoteOffBehaviour) → note_off_from_index_of (note_off_to_index_of b) ≡ Ok b
 note_off_of_index Decay = refl
 note_off_of_index ZeroCrossing = refl
 note_off_of_index DecayAndZeroCrossing = refl
 
-pub note_off_of_float : (b : NoteOffBehaviour) → note_off_from_f32_of (note_off_to_f32_of b) ≡ note_off.Done b
+pub note_off_of_float : (b : NoteOffBehaviour) → note_off_from_f32_of (note_off_to_f32_of b) ≡ Ok b
 note_off_of_float b = ap note_off_from_index_of (index_back (note_off_to_index_of b) (note_off_below b)) ∙ note_off_of_index b
 
 -- ---- NaN and negatives

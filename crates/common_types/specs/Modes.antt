@@ -1,17 +1,15 @@
 -- The two modes, each by its index and by the float from 0 to 1 that a host's dial gives (document 01, module 1).
 -- Definitions only. Assumes nothing.
-use Rattle.std.specs.Prelude.{ℕ, zero, suc, false, negsuc, Float}
+use Rattle.std.specs.Prelude.{ℕ, zero, suc, false, negsuc, Float, Result, Ok, Err}
 use Rattle.std.specs.Float.{fin, binary32}
 use Rattle.std.specs.Float.Ieee.{add, mul, div}
 use Rattle.binary32.specs.Leaves.{as_float, as_whole, floor_of}
+use Rattle.refusals.specs.declared.Refusal.{Refusal}
+use Rattle.refusals.specs.declared.Refusal.TheVariants.{BadArgument}
 use Rattle.common_types.specs.declared.LoopMode.{LoopMode}
 use Rattle.common_types.specs.declared.LoopMode.TheVariants.{PlayOnce, Loop, PingPong}
-use Rattle.common_types.specs.declared.LoopModeAnswer.{LoopModeAnswer}
-use Rattle.common_types.specs.declared.LoopModeAnswer.TheVariants as loop_mode
 use Rattle.common_types.specs.declared.NoteOffBehaviour.{NoteOffBehaviour}
 use Rattle.common_types.specs.declared.NoteOffBehaviour.TheVariants.{Decay, ZeroCrossing, DecayAndZeroCrossing}
-use Rattle.common_types.specs.declared.NoteOffBehaviourAnswer.{NoteOffBehaviourAnswer}
-use Rattle.common_types.specs.declared.NoteOffBehaviourAnswer.TheVariants as note_off
 
 -- ---- what the two modes share
 
@@ -40,20 +38,14 @@ loop_mode_to_index_of PlayOnce = 0
 loop_mode_to_index_of Loop = 1
 loop_mode_to_index_of PingPong = 2
 
-abbrev pub loop_mode_from_index_of : ℕ → LoopModeAnswer
-loop_mode_from_index_of index = by_index (loop_mode.Done PlayOnce) (loop_mode.Done Loop) (loop_mode.Done PingPong)
-    loop_mode.Refused index
+abbrev pub loop_mode_from_index_of : ℕ → Result LoopMode Refusal
+loop_mode_from_index_of index = by_index (Ok PlayOnce) (Ok Loop) (Ok PingPong) (Err BadArgument) index
 
 abbrev pub loop_mode_to_f32_of : LoopMode → Float
 loop_mode_to_f32_of mode = index_to_f32_of (loop_mode_to_index_of mode) 3
 
-abbrev pub loop_mode_from_f32_of : Float → LoopModeAnswer
+abbrev pub loop_mode_from_f32_of : Float → Result LoopMode Refusal
 loop_mode_from_f32_of x = loop_mode_from_index_of (index_from_f32_of x 3)
-
--- document 01's number for each case
-abbrev pub loop_mode_number : LoopModeAnswer → ℕ
-loop_mode_number (loop_mode.Done mode) = 0
-loop_mode_number loop_mode.Refused = 7
 
 -- ---- NoteOffBehaviour, likewise
 abbrev pub note_off_to_index_of : NoteOffBehaviour → ℕ
@@ -61,17 +53,12 @@ note_off_to_index_of Decay = 0
 note_off_to_index_of ZeroCrossing = 1
 note_off_to_index_of DecayAndZeroCrossing = 2
 
-abbrev pub note_off_from_index_of : ℕ → NoteOffBehaviourAnswer
+abbrev pub note_off_from_index_of : ℕ → Result NoteOffBehaviour Refusal
 note_off_from_index_of index =
-    by_index (note_off.Done Decay) (note_off.Done ZeroCrossing) (note_off.Done DecayAndZeroCrossing) note_off.Refused
-    index
+    by_index (Ok Decay) (Ok ZeroCrossing) (Ok DecayAndZeroCrossing) (Err BadArgument) index
 
 abbrev pub note_off_to_f32_of : NoteOffBehaviour → Float
 note_off_to_f32_of behaviour = index_to_f32_of (note_off_to_index_of behaviour) 3
 
-abbrev pub note_off_from_f32_of : Float → NoteOffBehaviourAnswer
+abbrev pub note_off_from_f32_of : Float → Result NoteOffBehaviour Refusal
 note_off_from_f32_of x = note_off_from_index_of (index_from_f32_of x 3)
-
-abbrev pub note_off_number : NoteOffBehaviourAnswer → ℕ
-note_off_number (note_off.Done behaviour) = 0
-note_off_number note_off.Refused = 7

@@ -36,9 +36,10 @@ ghost use Rattle.common_types.specs.Settings.{
 
 pub mod time_value;
 
+use refusals::Refusal;
 use time_value::{TimeOrRatio, TimeValue, calc_samples_per_quarter_note};
 
-#[derive(Clone, Copy)]
+#[derive(Clone, Copy, PartialEq, Eq)]
 pub struct Note {
     pub note: u8,
     pub channel: u8,
@@ -50,22 +51,28 @@ impl Note {
     {
         Self { note, channel }
     }
+}
 
-    pub fn default() -> Self
-        ensures { result ≡ default_note }
-    {
+impl Default for Note {
+    ghost is_default = { λ note. note ≡ default_note };
+
+    fn default() -> Self {
         Note::new(0, 0)
     }
+}
 
-    pub fn into_u64(self) -> u64
-        ensures { result ≡ into_u64_of self }
-    {
-        (self.note as u64) * 256 + self.channel as u64
+impl From<Note> for u64 {
+    ghost from_gives = { λ note value. value ≡ into_u64_of note };
+
+    fn from(note: Note) -> u64 {
+        (note.note as u64) * 256 + note.channel as u64
     }
+}
 
-    pub fn from_u64(value: u64) -> Self
-        ensures { result ≡ from_u64_of value }
-    {
+impl From<u64> for Note {
+    ghost from_gives = { λ value note. note ≡ from_u64_of value };
+
+    fn from(value: u64) -> Self {
         Note::new((value / 256 % 256) as u8, (value % 256) as u8)
     }
 }
@@ -75,12 +82,6 @@ pub enum LoopMode {
     PlayOnce,
     Loop,
     PingPong,
-}
-
-#[derive(Clone, Copy)]
-pub enum LoopModeAnswer {
-    Done(LoopMode),
-    Refused,
 }
 
 impl LoopMode {
@@ -96,14 +97,16 @@ impl LoopMode {
         }
     }
 
-    pub fn from_index(index: usize) -> LoopModeAnswer
+    // `from_index` and `from_f32` have the Rust's names, and are no `TryFrom`: two ways from a number would need one each.
+    #[tactic(auto, using(crate::proofs::Indices::by_index_other))]
+    pub fn from_index(index: usize) -> Result<LoopMode, Refusal>
         ensures { result ≡ loop_mode_from_index_of index }
     {
         match index {
-            0 => LoopModeAnswer::Done(LoopMode::PlayOnce),
-            1 => LoopModeAnswer::Done(LoopMode::Loop),
-            2 => LoopModeAnswer::Done(LoopMode::PingPong),
-            _ => LoopModeAnswer::Refused,
+            0 => Ok(LoopMode::PlayOnce),
+            1 => Ok(LoopMode::Loop),
+            2 => Ok(LoopMode::PingPong),
+            _ => Err(Refusal::BadArgument),
         }
     }
 
@@ -113,7 +116,7 @@ impl LoopMode {
         index_to_f32(self.to_index(), LoopMode::LENGTH)
     }
 
-    pub fn from_f32(x: f32) -> LoopModeAnswer
+    pub fn from_f32(x: f32) -> Result<LoopMode, Refusal>
         ensures { result ≡ loop_mode_from_f32_of x }
     {
         LoopMode::from_index(index_from_f32(x, LoopMode::LENGTH))
@@ -125,12 +128,6 @@ pub enum NoteOffBehaviour {
     Decay,
     ZeroCrossing,
     DecayAndZeroCrossing,
-}
-
-#[derive(Clone, Copy)]
-pub enum NoteOffBehaviourAnswer {
-    Done(NoteOffBehaviour),
-    Refused,
 }
 
 impl NoteOffBehaviour {
@@ -146,14 +143,15 @@ impl NoteOffBehaviour {
         }
     }
 
-    pub fn from_index(index: usize) -> NoteOffBehaviourAnswer
+    #[tactic(auto, using(crate::proofs::Indices::by_index_other))]
+    pub fn from_index(index: usize) -> Result<NoteOffBehaviour, Refusal>
         ensures { result ≡ note_off_from_index_of index }
     {
         match index {
-            0 => NoteOffBehaviourAnswer::Done(NoteOffBehaviour::Decay),
-            1 => NoteOffBehaviourAnswer::Done(NoteOffBehaviour::ZeroCrossing),
-            2 => NoteOffBehaviourAnswer::Done(NoteOffBehaviour::DecayAndZeroCrossing),
-            _ => NoteOffBehaviourAnswer::Refused,
+            0 => Ok(NoteOffBehaviour::Decay),
+            1 => Ok(NoteOffBehaviour::ZeroCrossing),
+            2 => Ok(NoteOffBehaviour::DecayAndZeroCrossing),
+            _ => Err(Refusal::BadArgument),
         }
     }
 
@@ -163,7 +161,7 @@ impl NoteOffBehaviour {
         index_to_f32(self.to_index(), NoteOffBehaviour::LENGTH)
     }
 
-    pub fn from_f32(x: f32) -> NoteOffBehaviourAnswer
+    pub fn from_f32(x: f32) -> Result<NoteOffBehaviour, Refusal>
         ensures { result ≡ note_off_from_f32_of x }
     {
         NoteOffBehaviour::from_index(index_from_f32(x, NoteOffBehaviour::LENGTH))
@@ -180,6 +178,7 @@ fn index_to_f32(index: usize, length: usize) -> f32
 }
 
 // The index whose part of 0 to 1 holds x.
+#[tactic(auto, unfolding(crate::specs::Modes::index_from_f32_of))]
 fn index_from_f32(x: f32, length: usize) -> usize
     ensures { result ≡ index_from_f32_of x length }
 {
@@ -196,10 +195,10 @@ pub struct Transport {
     pub time_sig_denominator: u32,
 }
 
-impl Transport {
-    pub fn default() -> Self
-        ensures { result ≡ default_transport }
-    {
+impl Default for Transport {
+    ghost is_default = { λ transport. transport ≡ default_transport };
+
+    fn default() -> Self {
         Self {
             sample_rate: 44100.0,
             tempo: 120.0,
@@ -227,10 +226,10 @@ pub struct Params {
 // The longest attack or decay.
 const LONGEST_RAMP: usize = 16777216;
 
-impl Params {
-    pub fn default() -> Self
-        ensures { result ≡ default_params }
-    {
+impl Default for Params {
+    ghost is_default = { λ params. params ≡ default_params };
+
+    fn default() -> Self {
         Self {
             attack_samples: 100,
             decay_samples: 100,
@@ -244,69 +243,65 @@ impl Params {
             note_off_behavior: NoteOffBehaviour::DecayAndZeroCrossing,
         }
     }
+}
 
+impl Params {
     // A copy made field by field. One of the whole, put into an enum, is made twice.
     pub fn copied(self) -> Self
         ensures { result ≡ self }
     {
-        let transport = self.transport;
-        let loop_length = self.loop_length;
-        let loop_mode = self.loop_mode;
-        let note_off_behavior = self.note_off_behavior;
         Self {
             attack_samples: self.attack_samples,
             decay_samples: self.decay_samples,
-            transport,
-            loop_length,
+            transport: self.transport,
+            loop_length: self.loop_length,
             speed: self.speed,
             reverse_speed: self.reverse_speed,
             volume: self.volume,
             auto_passthru: self.auto_passthru,
-            loop_mode,
-            note_off_behavior,
+            loop_mode: self.loop_mode,
+            note_off_behavior: self.note_off_behavior,
         }
     }
 
+    #[tactic(auto, unfolding(crate::specs::Settings::speed_of))]
     pub fn speed(self) -> f32
         ensures { result ≡ speed_of self }
     {
         self.speed * self.reverse_speed
     }
 
+    #[tactic(auto, unfolding(crate::specs::Settings::loop_length_of))]
     pub fn loop_length(self, data_len: usize) -> f32
         ensures { result ≡ loop_length_of self data_len }
     {
-        let transport = self.transport;
-        let loop_length = self.loop_length;
-        at_least_one(length(loop_length, transport, data_len))
+        at_least_one(length(self.loop_length, self.transport, data_len))
     }
 
     // What of the loop length asks for no recording (11/12). `loop_length` doesn't go by it, which would cost the calls
     // stack.
+    #[tactic(auto, unfolding(crate::specs::Settings::measure_of))]
     pub fn measure(self) -> Measure
         ensures { result ≡ measure_of self }
     {
-        let transport = self.transport;
-        let loop_length = self.loop_length;
         Measure {
-            value: time_length(timed(loop_length), whole(loop_length), transport),
-            by_ratio: is_ratio(loop_length),
+            value: time_length(
+                timed(self.loop_length),
+                whole(self.loop_length),
+                self.transport,
+            ),
+            by_ratio: is_ratio(self.loop_length),
         }
     }
 
     // Whether row 4 of document 01's table refuses these parameters.
+    #[tactic(auto, unfolding(crate::specs::Settings::beyond_limits))]
     pub fn beyond_limits(self) -> bool
         ensures { result ≡ beyond_limits self }
     {
-        if self.attack_samples > LONGEST_RAMP {
-            return true;
-        }
-        if self.decay_samples > LONGEST_RAMP {
-            return true;
-        }
-        let transport = self.transport;
-        let loop_length = self.loop_length;
-        length_beyond(loop_length, transport)
+        self.attack_samples > LONGEST_RAMP
+            || self.decay_samples > LONGEST_RAMP
+            || length_beyond(self.loop_length, self.transport)
     }
 }
 
@@ -319,6 +314,7 @@ pub struct Measure {
 
 impl Measure {
     // The loop length over a recording of that length, as a float.
+    #[tactic(auto, unfolding(crate::specs::Settings::measured_of))]
     pub fn length(self, data_length: f32) -> f32
         ensures { result ≡ measured_of self data_length }
     {
@@ -337,6 +333,7 @@ fn at_least_one(x: f32) -> f32
 }
 
 // NaN is not above a limit.
+#[tactic(auto, unfolding(crate::specs::Settings::length_beyond), using(crate::proofs::Worked::worked_beyond))]
 fn length_beyond(length: TimeOrRatio, transport: Transport) -> bool
     ensures { result ≡ length_beyond length transport }
 {
@@ -347,6 +344,7 @@ fn length_beyond(length: TimeOrRatio, transport: Transport) -> bool
 }
 
 // A loop length before it is held to 1 or more.
+#[tactic(auto, unfolding(crate::specs::Settings::length_of), using(crate::proofs::Worked::worked_length))]
 fn length(length: TimeOrRatio, transport: Transport, data_len: usize) -> f32
     ensures { result ≡ length_of length transport data_len }
 {
@@ -371,21 +369,13 @@ fn timed(length: TimeOrRatio) -> TimeValue
 fn whole(length: TimeOrRatio) -> bool
     ensures { result ≡ is_whole length }
 {
-    match length {
-        TimeOrRatio::Time(_) => false,
-        TimeOrRatio::Ratio(_) => false,
-        TimeOrRatio::WholeBars(_) => true,
-    }
+    matches!(length, TimeOrRatio::WholeBars(_))
 }
 
 fn is_ratio(length: TimeOrRatio) -> bool
     ensures { result ≡ is_ratio length }
 {
-    match length {
-        TimeOrRatio::Time(_) => false,
-        TimeOrRatio::Ratio(_) => true,
-        TimeOrRatio::WholeBars(_) => false,
-    }
+    matches!(length, TimeOrRatio::Ratio(_))
 }
 
 // A bar is numerator / denominator quarter notes, and a whole one four times that, as `TimeValue::as_samples` has it.
@@ -414,10 +404,10 @@ pub struct InitParams {
     pub auto_passthru: bool,
 }
 
-impl InitParams {
-    pub fn default() -> Self
-        ensures { result ≡ default_init_params }
-    {
+impl Default for InitParams {
+    ghost is_default = { λ params. params ≡ default_init_params };
+
+    fn default() -> Self {
         Self {
             auto_passthru: DEFAULT_AUTO_PASSTHRU,
         }

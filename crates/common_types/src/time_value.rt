@@ -67,6 +67,7 @@ impl TimeValue {
         }
     }
 
+    #[tactic(auto, unfolding(crate::specs::Times::as_samples_of))]
     pub fn as_samples(self, transport: Transport) -> f32
         ensures { result ≡ as_samples_of self transport }
     {
@@ -94,6 +95,7 @@ pub fn calc_samples_per_quarter_note(transport: Transport) -> f32
     transport.sample_rate * 60.0 / transport.tempo
 }
 
+#[tactic(auto, unfolding(crate::specs::Times::samples_per_bar_of))]
 pub fn calc_samples_per_bar(transport: Transport) -> f32
     ensures { result ≡ samples_per_bar_of transport }
 {

@@ -19,6 +19,7 @@ use Rattle.promises.specs.Runs.{
   sample,
   frame,
 }
+use Rattle.lent_sampler.specs.Hearing.{done_in, heard_in, moved_in}
 use Rattle.promises.specs.Outcomes.{on, along, Allows}
 use Rattle.plain_sampler.specs.Backings.{change_backing, sample_backing, frame_backing, run_backing}
 use Rattle.plain_sampler.specs.contracts.change as change_call
@@ -95,7 +96,7 @@ pub record Backed (m : List ℕ) : Type 2 where
       (λ κs (s, (k, (channel, (input, (params, (memory, _)))))) r (left, (beside, (_, (_, (_, (written, _)))))).
       Allows (on (lying s.now memory.now) (sample channel input params))
       (record {
-        answer = record { sampler = left.now; output = r.output; number = r.number; moved = r.moved };
+        answer = record { sampler = left.now; output = (heard_in r).output; done = done_in r; moved = (heard_in r).moved };
         memory = written.now;
       })
       × (beside.now ≡ sample_backing s.now channel input params memory.now k.now))
@@ -103,7 +104,7 @@ pub record Backed (m : List ℕ) : Type 2 where
       (λ κs (s, (k, (entries, (params, (memory, _))))) r (left, (beside, (played, (_, (written, _))))).
       Allows (on (lying s.now memory.now) (frame entries.now params))
       (record {
-        answer = record { sampler = left.now; number = r.number; moved = r.moved };
+        answer = record { sampler = left.now; done = done_in r; moved = moved_in r };
         frame = played.now;
         memory = written.now;
       })

@@ -1,7 +1,7 @@
 -- Every call on a record that its host lends leaves what the call by value may leave: `Allows`, with the record at the
 -- end for the one that is handed back. It is said of the functions of lent_sampler/src/lib.rt themselves, as they run.
 -- `proofs/Lent: lent` proves it. Definitions only. Assumes nothing.
-use Rattle.std.specs.Prelude.{ℕ, ◌≡◌, List}
+use Rattle.std.specs.Prelude.{ℕ, ◌≡◌, List, Result}
 use seplogic.Ra.Ura.{Ura}
 use base.Logic.{emp}
 use mir.Syntax.{Callee}
@@ -14,6 +14,7 @@ use contract.Running.{Running}
 use denote.Triple.Entry.{Args, Res}
 use denote.Triple.Spec.{Meets}
 use denote.Triple.Clauses.{Ended, AtExit, closing}
+use Rattle.refusals.specs.declared.Refusal.{Refusal}
 use Rattle.sampler.specs.declared.Sampler.{Sampler}
 use Rattle.sampler.specs.declared.Answer.{Answer}
 use Rattle.promises.specs.Runs.{
@@ -43,6 +44,7 @@ use Rattle.promises.specs.Runs.{
   gather,
   asks,
 }
+use Rattle.lent_sampler.specs.Hearing.{done_in, heard_in, moved_in}
 use Rattle.promises.specs.Outcomes.{on, along, plays, Allows}
 use Rattle.lent_sampler.specs.contracts.start_playing as start_playing
 use Rattle.lent_sampler.proofs.start_playing.Symbol as start_playing_code
@@ -110,8 +112,8 @@ Ensures T code name Q = (M : Type 1) (𝓤 : Ura M) (𝓛 : Logic 𝓤) (𝓜 : 
 abbrev pub lying : Sampler → List ℕ → World
 lying s m = record { sampler = s; memory = m }
 
-abbrev pub answer : Sampler → ℕ → Answer
-answer s number = record { sampler = s; number = number }
+abbrev pub answer : Sampler → Result (Unit {0}) Refusal → Answer
+answer s done = record { sampler = s; done = done }
 
 -- m is the memory that lies beside the record; only a gather, a sample, a frame, a run of frames, a waveform and a file
 -- are lent it
@@ -146,14 +148,14 @@ pub record Lent (m : List ℕ) : Type 2 where
       (λ κs (s, (channel, (input, (params, (memory, _))))) r (left, (_, (_, (_, (written, _))))).
       Allows (on (lying s.now memory.now) (sample channel input params))
       (record {
-        answer = record { sampler = left.now; output = r.output; number = r.number; moved = r.moved };
+        answer = record { sampler = left.now; output = (heard_in r).output; done = done_in r; moved = (heard_in r).moved };
         memory = written.now;
       }))
   pub process_frame : Ensures process_frame.ended process_frame_code.code process_frame_code.name
       (λ κs (s, (entries, (params, (memory, _)))) r (left, (played, (_, (written, _)))).
       Allows (on (lying s.now memory.now) (frame entries.now params))
       (record {
-        answer = record { sampler = left.now; number = r.number; moved = r.moved };
+        answer = record { sampler = left.now; done = done_in r; moved = moved_in r };
         frame = played.now;
         memory = written.now;
       }))

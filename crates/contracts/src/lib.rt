@@ -34,8 +34,9 @@ ghost use Rattle.promises.specs.Outcomes.{new as set_up_call, on, along, reads, 
 
 use channel::Change;
 use common_types::{InitParams, Note, Params};
-use questions::{Counted, OffsetAnswer, Told, VoiceInfos, WaveformSummary};
+use questions::{VoiceInfos, WaveformSummary};
 use recordings::ReadAnswer;
+use refusals::Refusal;
 use sampler::{Answer, FrameAnswer, RunAnswer, SampleAnswer, Sampler};
 use songs::Playing;
 
@@ -147,34 +148,34 @@ pub fn process_frames(s: Sampler, run: &mut [f32], params: Params, memory: &mut 
     s.process_frames(run, params, memory)
 }
 
-pub fn get_frames_processed(s: Sampler, channel: usize) -> Counted
+pub fn get_frames_processed(s: Sampler, channel: usize) -> Result<usize, Refusal>
     ensures { (m : List ℕ)
         → Allows (on (record { sampler = s; memory = m }) (asks (get_frames_processed channel))) result }
 {
     questions::get_frames_processed(s, channel)
 }
 
-pub fn get_data_len(s: Sampler, channel: usize) -> Counted
+pub fn get_data_len(s: Sampler, channel: usize) -> Result<usize, Refusal>
     ensures { (m : List ℕ) → Allows (on (record { sampler = s; memory = m }) (asks (get_data_len channel))) result }
 {
     questions::get_data_len(s, channel)
 }
 
-pub fn is_recording(s: Sampler, channel: usize) -> Told
+pub fn is_recording(s: Sampler, channel: usize) -> Result<bool, Refusal>
     ensures { (m : List ℕ)
         → Allows (on (record { sampler = s; memory = m }) (asks (is_recording channel))) result }
 {
     questions::is_recording(s, channel)
 }
 
-pub fn get_last_recorded_offset(s: Sampler, channel: usize) -> OffsetAnswer
+pub fn get_last_recorded_offset(s: Sampler, channel: usize) -> Result<Option<usize>, Refusal>
     ensures { (m : List ℕ)
         → Allows (on (record { sampler = s; memory = m }) (asks (get_last_recorded_offset channel))) result }
 {
     questions::get_last_recorded_offset(s, channel)
 }
 
-pub fn print_error_info(s: Sampler, channel: usize, text: &mut [u8]) -> Counted
+pub fn print_error_info(s: Sampler, channel: usize, text: &mut [u8]) -> Result<usize, Refusal>
     ensures { (m : List ℕ)
         → Allows (on (record { sampler = s; memory = m }) (asks (print_error_info channel text.old)))
         (record { answer = result; lent = text.new }) }
@@ -182,7 +183,7 @@ pub fn print_error_info(s: Sampler, channel: usize, text: &mut [u8]) -> Counted
     questions::print_error_info(s, channel, text)
 }
 
-pub fn iter_active_notes(s: Sampler, channel: usize, notes: &mut [u64]) -> Counted
+pub fn iter_active_notes(s: Sampler, channel: usize, notes: &mut [u64]) -> Result<usize, Refusal>
     ensures { (m : List ℕ)
         → Allows (on (record { sampler = s; memory = m }) (asks (iter_active_notes channel notes.old)))
         (record { answer = result; lent = notes.new }) }
@@ -190,7 +191,12 @@ pub fn iter_active_notes(s: Sampler, channel: usize, notes: &mut [u64]) -> Count
     questions::iter_active_notes(s, channel, notes)
 }
 
-pub fn get_voice_info(s: Sampler, channel: usize, params: Params, room: usize) -> VoiceInfos
+pub fn get_voice_info(
+    s: Sampler,
+    channel: usize,
+    params: Params,
+    room: usize,
+) -> Result<VoiceInfos, Refusal>
     ensures { (m : List ℕ)
         → Allows (on (record { sampler = s; memory = m }) (asks (get_voice_info channel params room))) result }
 {
@@ -202,7 +208,7 @@ pub fn get_waveform_summary(
     columns: usize,
     list: &mut [f32],
     memory: &[u32],
-) -> WaveformSummary
+) -> Result<WaveformSummary, Refusal>
     ensures { Allows
         (on (record { sampler = s; memory = memory.now })
         (asks (get_waveform_summary columns list.old)))
@@ -211,7 +217,7 @@ pub fn get_waveform_summary(
     questions::get_waveform_summary(s, columns, list, memory)
 }
 
-pub fn write_wave(s: Sampler, rate: u32, memory: &[u32], out: &mut [u8]) -> Counted
+pub fn write_wave(s: Sampler, rate: u32, memory: &[u32], out: &mut [u8]) -> Result<usize, Refusal>
     ensures { Allows
         (on (record { sampler = s; memory = memory.now }) (asks (write_wave rate out.old)))
         (record { answer = result; lent = out.new }) }
@@ -226,7 +232,7 @@ pub fn read_wave(s: Sampler, file: &[u8], memory: &mut [u32]) -> ReadAnswer
     recordings::read_wave(s, file, memory)
 }
 
-pub fn read_song(file: &[u8], rate: u32, list: &mut [u64]) -> smf::Counted
+pub fn read_song(file: &[u8], rate: u32, list: &mut [u64]) -> Result<usize, smf::SongRefusal>
     ensures { Allows (reads file.now rate list.old)
         (record { answer = result; lent = list.new }) }
 {

@@ -1,5 +1,6 @@
 -- What the host's three steps leave, by the definitions of the calls. Definitions only.
-use Rattle.std.specs.Prelude.{ℕ, false, List, length, Float}
+use Rattle.std.specs.Prelude.{ℕ, false, List, length, Float, Result}
+use Rattle.refusals.specs.declared.Refusal.{Refusal}
 use Rattle.binary32.specs.Leaves.{zero32, one32}
 use Rattle.common_types.specs.Notes.{note_of}
 use Rattle.common_types.specs.Settings.{default_params}
@@ -49,5 +50,5 @@ unfoldable pub pressed_of : Sampler → Sampler
 pressed_of s = (start_playing_of (stop_recording_of s).sampler zero32 key one32 settings).sampler
 
 -- the key let go, and the voices of channel 0
-unfoldable pub told_of : Sampler → VoiceInfos
+unfoldable pub told_of : Sampler → Result VoiceInfos Refusal
 told_of s = get_voice_info_of (stop_playing_of s key settings).sampler 0 settings 32

@@ -3,14 +3,16 @@
 #![tactic(auto)]
 
 ghost use Rattle.std.specs.Prelude.{◌≡◌, length};
-ghost use Rattle.sampler.specs.Refusals.{frame_number};
+ghost use Rattle.sampler.specs.Refusals.{frame_judged};
 ghost use Rattle.sampler.specs.Samplers.{Frames, framed_of, frame_moved, change_of};
+ghost use Rattle.lent_sampler.specs.Hearing.{done_in, moved_in};
 ghost use Rattle.coupling.specs.Coupling.{no_passthru, key, settings, frame_recorded, pressed_of, told_of};
 
 use channel::{Change, HeadChange};
 use common_types::{InitParams, Note, Params};
 use own_sampler::FramePlayed;
 use questions::VoiceInfos;
+use refusals::Refusal;
 use sampler::{Answer, Sampler};
 use std::io;
 
@@ -55,23 +57,23 @@ fn pressed(s: Sampler) -> Sampler
 fn changed(mut s: Sampler, change: Change) -> Answer
     ensures { result ≡ change_of s change }
 {
-    let number = lent_sampler::change(&mut s, change);
-    Answer { sampler: s, number }
+    let done = lent_sampler::change(&mut s, change);
+    Answer { sampler: s, done }
 }
 
-// One frame is played on the host's own record, which it lends for the call.
+// One frame is played on the host's own record, which it lends for the call: own_sampler's call once more, to show how.
 fn sounded(mut s: Sampler, frame: &mut [f32], params: Params, memory: &mut [u32]) -> FramePlayed
-    ensures { (result.done.number
-        ≡ frame_number s (length frame.old) params (length memory.old))
+    ensures { (done_in result.done
+        ≡ frame_judged s (length frame.old) params (length memory.old))
         × Frames (framed_of s frame.old params memory.old) result.sampler frame.new
-        memory.new × (result.done.moved ≡ frame_moved s frame.old params memory.old) }
+        memory.new × (moved_in result.done ≡ frame_moved s frame.old params memory.old) }
 {
     let done = lent_sampler::process_frame(&mut s, frame, params, memory);
     FramePlayed { sampler: s, done }
 }
 
 // The key is let go. What sounds on channel 0?
-fn told(s: Sampler) -> VoiceInfos
+fn told(s: Sampler) -> Result<VoiceInfos, Refusal>
     ensures { result ≡ told_of s }
 {
     let stop = Change::Stop {
@@ -95,6 +97,9 @@ fn main(rt: HostRuntime) -> io::Result<()> {
     let s = sounded(pressed(s), &mut output, params(), &mut memory).sampler;
     print(&rt, output[0])?;
     print(&rt, output[1])?;
-    let voices = told(s);
-    rt.println(voices.count)
+    let count = match told(s) {
+        Ok(voices) => voices.count,
+        Err(_) => 0,
+    };
+    rt.println(count)
 }

@@ -112,6 +112,23 @@ decimal_short (suc k) n h = go (ltb n 10) refl (decimal_short k (n / 10))
         let shorter = ih (omega (arith, pow-suc 10 (suc k))) in
         simp (decimal_more n (ltb-false n 10 e), length-append) (omega arith)
 
+-- and one from 10 ^ k on has at least k + 1 of them
+
+ten_some : (k : ℕ) → 1 ≤ 10 ^ k
+ten_some zero = omega arith
+ten_some (suc k) = omega (arith, pow-suc 10 k, ten_some k)
+
+pub decimal_long : (k n : ℕ) → 10 ^ k ≤ n → suc k ≤ length (decimal n)
+decimal_long zero n h = decimal_some n
+decimal_long (suc k) n h =
+    let some : 1 ≤ 10 ^ k = ten_some k in
+    let more : 10 ≤ n = omega (arith, pow-suc 10 k) in
+    let shorter : suc k ≤ length (decimal (n / 10)) = decimal_long k (n / 10) (omega (arith, pow-suc 10 k)) in
+    omega (arith, decimal_length n more)
+
+pub decimal_sized : (k n : ℕ) → 10 ^ k ≤ n → n < 10 * 10 ^ k → length (decimal n) ≡ k + 1
+decimal_sized k n low high = omega (arith, decimal_long k n low, decimal_short k n (omega (arith, pow-suc 10 k)))
+
 -- ---- every list of digits with no leading zero is the decimal notation of what it stands for
 
 first_digit : (b : ℕ) (bs : List ℕ) → all_digits (b ∷ bs) ≡ true → (48 ≤ b) × (b ≤ 57) × (all_digits bs ≡ true)

@@ -4,13 +4,13 @@
 
 mod writing;
 
-ghost use Rattle.std.specs.Prelude.{◌≡◌, [], ◌+◌, min, leb};
+ghost use Rattle.std.specs.Prelude.{◌≡◌, [], ◌+◌, leb};
 ghost use Rattle.decimal.specs.Decimal.{decimal};
 ghost use Rattle.decimal.specs.Lines.{line_of, with_of, text_of, fits_in, printed_of};
 
 use writing::{decimal_length, write_bytes, write_decimal};
 
-// The text is the first `length` of the bytes.
+// The text is the first `length` of the bytes; the engine has no heap, so they stand in the line.
 #[derive(Clone, Copy)]
 pub struct Line {
     pub bytes: [u8; 64],
@@ -20,19 +20,7 @@ pub struct Line {
 fn has_room(at: usize, size: usize) -> bool
     ensures { result ≡ leb (at + size) 64 }
 {
-    if 64 < at {
-        return false;
-    }
-    if 64 - at < size {
-        return false;
-    }
-    true
-}
-
-fn places(count: usize) -> usize
-    ensures { result ≡ min count 64 }
-{
-    if count < 64 { count } else { 64 }
+    at <= 64 && size <= 64 - at
 }
 
 impl Line {
@@ -49,10 +37,9 @@ impl Line {
     pub fn with(self, text: &[u8]) -> Line
         ensures { result ≡ with_of self text.now }
     {
-        let at = self.length;
-        if has_room(at, text.len()) {
+        if has_room(self.length, text.len()) {
             let mut bytes = self.bytes;
-            let length = write_bytes(&mut bytes, at, text);
+            let length = write_bytes(&mut bytes, self.length, text);
             Line { bytes, length }
         } else {
             self
@@ -62,14 +49,20 @@ impl Line {
     pub fn with_decimal(self, n: u64) -> Line
         ensures { result ≡ with_of self (decimal n) }
     {
-        let at = self.length;
-        if has_room(at, decimal_length(n)) {
+        if has_room(self.length, decimal_length(n)) {
             let mut bytes = self.bytes;
-            let length = write_decimal(&mut bytes, at, n);
+            let length = write_decimal(&mut bytes, self.length, n);
             Line { bytes, length }
         } else {
             self
         }
+    }
+
+    #[tactic(auto, using(walks::proofs::Lists::Loops::take_most), unfolding(crate::specs::Lines::text_of))]
+    pub fn text(&self) -> &[u8]
+        ensures { result.now ≡ text_of self.now }
+    {
+        &self.bytes[..self.length.min(64)]
     }
 
     // Copies the text to the front of a lent list, where it fits, and says whether it did.
@@ -77,12 +70,11 @@ impl Line {
         ensures value { result ≡ fits_in (text_of self) lent.old }
         ensures lent_after { lent.new ≡ printed_of (text_of self) lent.old }
     {
-        let n = places(self.length);
-        if lent.len() < n {
+        let text = self.text();
+        if lent.len() < text.len() {
             return false;
         }
-        let bytes = self.bytes;
-        write_bytes(lent, 0, &bytes[..n]);
+        write_bytes(lent, 0, text);
         true
     }
 }

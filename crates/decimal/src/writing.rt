@@ -8,12 +8,9 @@ pub fn write_bytes(text: &mut [u8], at: usize, bytes: &[u8]) -> usize
     ensures value { result ≡ at + length bytes.now }
     ensures text_after { text.new ≡ sets text.old at bytes.now }
 {
-    let mut i = 0;
-    while i < bytes.len() {
-        text[at + i] = bytes[i];
-        i += 1;
-    }
-    at + i
+    let end = at + bytes.len();
+    text[at..end].copy_from_slice(bytes);
+    end
 }
 
 fn last_digit(n: u64) -> u8
@@ -25,13 +22,7 @@ fn last_digit(n: u64) -> u8
 pub fn decimal_length(n: u64) -> usize
     ensures { result ≡ length (decimal n) }
 {
-    let mut count: usize = 1;
-    let mut rest = n;
-    while rest >= 10 {
-        rest = rest / 10;
-        count += 1;
-    }
-    count
+    n.max(1).ilog10() as usize + 1
 }
 
 // From the last digit to the first.
@@ -41,12 +32,13 @@ pub fn write_decimal(text: &mut [u8], at: usize, n: u64) -> usize
     ensures text_after { text.new ≡ sets text.old at (decimal n) }
 {
     let end = at + decimal_length(n);
+    // A `for` over the places is no plainer: what is left of the number ends the loop.
     let mut place = end;
     let mut rest = n;
     while rest >= 10 {
         place -= 1;
         text[place] = last_digit(rest);
-        rest = rest / 10;
+        rest /= 10;
     }
     text[at] = last_digit(rest);
     end

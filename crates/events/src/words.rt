@@ -14,12 +14,22 @@ pub fn unread(rt: &impl Eprint) {
 pub fn of_header(rt: &impl Eprint, bytes: &[u8]) {
     at(rt, 0);
     match header_fault(bytes) {
-        HeaderFault::None => say(rt, "nothing is wrong"),
-        HeaderFault::Empty => say(rt, "the input is empty"),
-        HeaderFault::Cut => say(rt, "the header is cut short: it has 3 bytes"),
-        HeaderFault::Version(n) => told(rt, "version ", n as u64, ", where there are 1 and 2"),
-        HeaderFault::Channels(n) => told(rt, "", n as u64, " channels, where there are 1 or 2"),
-        HeaderFault::Passthru(n) => told(
+        None => say(rt, "nothing is wrong"),
+        Some(HeaderFault::Empty) => say(rt, "the input is empty"),
+        Some(HeaderFault::Cut) => say(rt, "the header is cut short: it has 3 bytes"),
+        Some(HeaderFault::Version(n)) => told(
+            rt,
+            "version ",
+            n as u64,
+            ", where there are 1 and 2",
+        ),
+        Some(HeaderFault::Channels(n)) => told(
+            rt,
+            "",
+            n as u64,
+            " channels, where there are 1 or 2",
+        ),
+        Some(HeaderFault::Passthru(n)) => told(
             rt,
             "auto pass-through ",
             n as u64,
@@ -33,40 +43,50 @@ pub fn of_header(rt: &impl Eprint, bytes: &[u8]) {
 pub fn of_record(rt: &impl Eprint, offset: u64, header: Header, bytes: &[u8]) {
     at(rt, offset);
     match record_fault(header, bytes) {
-        RecordFault::None => say(rt, "nothing is wrong"),
-        RecordFault::NoLength => say(rt, "the record is cut short: its length has 2 bytes"),
-        RecordFault::NoKind => say(rt, "a length of 0, where each record has a kind"),
-        RecordFault::TooLong(size) => told(
+        None => say(rt, "nothing is wrong"),
+        Some(RecordFault::NoLength) => say(rt, "the record is cut short: its length has 2 bytes"),
+        Some(RecordFault::NoKind) => say(rt, "a length of 0, where each record has a kind"),
+        Some(RecordFault::TooLong(size)) => told(
             rt,
             "a length of ",
             size as u64,
             ", where no kind has more than 45",
         ),
-        RecordFault::Cut { has, size } => cut(rt, has as u64, size as u64),
-        RecordFault::Kind(kind) => told(
+        Some(RecordFault::Cut { has, size }) => cut(rt, has as u64, size as u64),
+        Some(RecordFault::Kind(kind)) => told(
             rt,
             "unknown kind ",
             kind as u64,
             ", where there are 0 to 7",
         ),
-        RecordFault::Length { kind, has, asked } => length(
+        Some(RecordFault::Length { kind, has, asked }) => length(
             rt,
             kind as u64,
             has as u64,
             asked as u64,
         ),
-        RecordFault::Passthru(n) => told(
+        Some(RecordFault::Passthru(n)) => told(
             rt,
             "pass-through ",
             n as u64,
             ", where 0 is off and 1 on",
         ),
-        RecordFault::LoopMode(n) => told(rt, "loop mode ", n as u64, ", where there are 0 to 2"),
-        RecordFault::LengthKind { kind, last } => {
+        Some(RecordFault::LoopMode(n)) => told(
+            rt,
+            "loop mode ",
+            n as u64,
+            ", where there are 0 to 2",
+        ),
+        Some(RecordFault::LengthKind { kind, last }) => {
             told(rt, "length kind ", kind as u64, ", where there are 0 to ");
             told(rt, "", last as u64, "");
         }
-        RecordFault::NoteOff(n) => told(rt, "note-off mode ", n as u64, ", where there are 0 to 2"),
+        Some(RecordFault::NoteOff(n)) => told(
+            rt,
+            "note-off mode ",
+            n as u64,
+            ", where there are 0 to 2",
+        ),
     }
     say(rt, "\n");
 }

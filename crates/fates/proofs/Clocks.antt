@@ -7,7 +7,7 @@ use native.Mathlib.Nat.{le_refl, le_trans, le_of_eq}
 use native.Mathlib.Omega.{arith}
 use lib.Dec.{eqb, ltb}
 use lib.Ieee.{Float}
-use Rattle.walks.specs.Walks.{any}
+use Rattle.std.specs.List.{list_any}
 use Rattle.common_types.specs.declared.Params.{Params}
 use Rattle.common_types.specs.declared.Note.{Note}
 use Rattle.voice.specs.declared.Voice.{Voice}
@@ -15,8 +15,7 @@ use Rattle.volume.specs.declared.Volume.{Volume}
 use Rattle.channel.specs.declared.Head.{Head}
 use Rattle.channel.specs.declared.Channel.{Channel}
 use Rattle.channel.specs.declared.Change.TheVariants as change
-use Rattle.channel.specs.declared.Found.{Found}
-use Rattle.channel.specs.declared.Found.TheVariants.{At, Nothing}
+use Rattle.std.specs.Prelude.{Option, Some, None}
 use Rattle.channel.specs.Heads.{last_time, next_time, with_passthru, head_of}
 use Rattle.channel.specs.Channels.{
   any_unfinished_of,
@@ -46,10 +45,10 @@ module _ {A : Type 0} (f : Head → A) (same : (on : Bool) (v : Volume) (h : Hea
   unfolding pushed_of
   pushed_holds v c = either (λ (d : Channel). f d.head) (ltb c.count 32) _ c (f c.head) refl refl
 
-  pub finished_holds : (p : Params) (c : Channel) (found : Found) → f (finished_at_of p c found).head ≡ f c.head
+  pub finished_holds : (p : Params) (c : Channel) (found : Option ℕ) → f (finished_at_of p c found).head ≡ f c.head
   unfolding finished_at_of
-  finished_holds p c Nothing = refl
-  finished_holds p c (At i) = either (λ (d : Channel). f d.head) (ltb i 32) _ c (f c.head) (handled_holds p _) refl
+  finished_holds p c None = refl
+  finished_holds p c (Some i) = either (λ (d : Channel). f d.head) (ltb i 32) _ c (f c.head) (handled_holds p _) refl
 
   pub started_holds : (p : Params) (position : Float) (note : Note) (velocity : Float) (c : Channel) → f (begun_of p position note velocity c).head ≡ f c.head
   unfolding begun_of
@@ -102,31 +101,31 @@ clock_up (gathers m) c r = le_refl c.head.now
 clock_up (sounds p x m) c r = subst (λ (n : ℕ). c.head.now ≤ n) (sym (sounded_clock p x m c)) (next_later c.head.now)
 
 -- ---- any events without a reset
-pub clock_later : (es : List Event) (c : Channel) → any is_reset es ≡ false → c.head.now ≤ (acts es c).head.now
-unfolding acts any
+pub clock_later : (es : List Event) (c : Channel) → list_any is_reset es ≡ false → c.head.now ≤ (acts es c).head.now
+unfolding acts
 clock_later [] c r = le_refl c.head.now
 clock_later (e ∷ es) c r =
-    let a = neither (is_reset e) (any is_reset es) r in
+    let a = neither (is_reset e) (list_any is_reset es) r in
     le_trans (clock_up e c a.0) (clock_later es (act e c) a.1)
 
-pub clock_stands : (es : List Event) (c : Channel) → any is_reset es ≡ false → any is_sample es ≡ false → (acts es c).head.now ≡ c.head.now
-unfolding acts any
+pub clock_stands : (es : List Event) (c : Channel) → list_any is_reset es ≡ false → list_any is_sample es ≡ false → (acts es c).head.now ≡ c.head.now
+unfolding acts
 clock_stands [] c r q = refl
 clock_stands (e ∷ es) c r q =
-    let a = neither (is_reset e) (any is_reset es) r in
-    let b = neither (is_sample e) (any is_sample es) q in
+    let a = neither (is_reset e) (list_any is_reset es) r in
+    let b = neither (is_sample e) (list_any is_sample es) q in
     clock_stands es (act e c) a.1 b.1 ∙ clock_still e c a.0 b.0
 
 -- a clock that stands still has met no sample
-pub no_sample : (es : List Event) (c : Channel) → any is_reset es ≡ false → c.head.now < last_time → (acts es c).head.now ≡ c.head.now → any is_sample es ≡ false
-unfolding acts any is_sample is_reset
+pub no_sample : (es : List Event) (c : Channel) → list_any is_reset es ≡ false → c.head.now < last_time → (acts es c).head.now ≡ c.head.now → list_any is_sample es ≡ false
+unfolding acts is_sample is_reset
 no_sample [] c r h k = refl
 no_sample (idle ∷ es) c r h k = no_sample es (act idle c) r (subst (λ (n : ℕ). n < last_time) (sym (clock_still idle c refl refl)) h) (k ∙ sym (clock_still idle c refl refl))
 no_sample (changes d ∷ es) c r h k =
-    let a = neither (is_reset (changes d)) (any is_reset es) r in
+    let a = neither (is_reset (changes d)) (list_any is_reset es) r in
     let e = clock_still (changes d) c a.0 refl in
     no_sample es (act (changes d) c) a.1 (subst (λ (n : ℕ). n < last_time) (sym e) h) (k ∙ sym e)
 no_sample (gathers m ∷ es) c r h k = no_sample es (act (gathers m) c) r (subst (λ (n : ℕ). n < last_time) (sym (clock_still (gathers m) c refl refl)) h) (k ∙ sym (clock_still (gathers m) c refl refl))
 no_sample (sounds p x m ∷ es) c r h k =
-    let a = neither (is_reset (sounds p x m)) (any is_reset es) r in
+    let a = neither (is_reset (sounds p x m)) (list_any is_reset es) r in
     absurd (omega (arith, clock_moves p x m c h, clock_later es (act (sounds p x m) c) a.1))

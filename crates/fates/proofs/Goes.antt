@@ -15,8 +15,7 @@ use Rattle.voice.specs.declared.Tick.{Tick}
 use Rattle.voice.specs.Voices.{tick_of, sounded_of, played_out_of, finish_of}
 use Rattle.channel.specs.declared.Channel.{Channel}
 use Rattle.channel.specs.declared.Change.TheVariants as change
-use Rattle.channel.specs.declared.Found.{Found}
-use Rattle.channel.specs.declared.Found.TheVariants.{At, Nothing}
+use Rattle.std.specs.Prelude.{Option as Found, Some, None}
 use Rattle.channel.specs.Channels.{same_note, unfinished_of, wanted_of, find_of, taken_of}
 use Rattle.fates.specs.Engine.{voice_turned, leaves_of, moment_at, held_at}
 use Rattle.fates.specs.Events.{Event, idle, changes, gathers, sounds, act, empty_at, tick_at, SampledIn, decay_of, last_of, before_last}
@@ -32,11 +31,11 @@ stop_unfinished : (note : Note) (c : Channel) (n : ℕ) (v : Voice) → voice_at
 unfolding wanted_of
 stop_unfinished note c n v s f = go (find_of note c) refl f
   where
-    go : (g : Found) → find_of note c ≡ g → finds_at g n ≡ true → v.finished ≡ false
-    go Nothing e f = absurd (true≢false (sym f))
-    go (At i) e f =
+    go : (g : Found ℕ) → find_of note c ≡ g → finds_at g n ≡ true → v.finished ≡ false
+    go None e f = absurd (true≢false (sym f))
+    go (Some i) e f =
         let z : i ≡ n = eqb-true i n f in
-        let w = found note c n (e ∙ ap At z) in
+        let w = found note c n (e ∙ ap Some z) in
         let q : w.voice ≡ v = cc w.stands in
         not-true v.finished (subst (λ (u : Voice). unfinished_of u ≡ true) q (both (same_note w.voice.note note) (unfinished_of w.voice) w.wanted).1)
 

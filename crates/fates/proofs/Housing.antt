@@ -16,8 +16,7 @@ use Rattle.voice.specs.declared.Voice.{Voice}
 use Rattle.voice.specs.Voices.{finish_of, blank_voice}
 use Rattle.channel.specs.declared.Channel.{Channel}
 use Rattle.channel.specs.declared.Change.TheVariants as change
-use Rattle.channel.specs.declared.Found.{Found}
-use Rattle.channel.specs.declared.Found.TheVariants.{At, Nothing}
+use Rattle.std.specs.Prelude.{Option, Some, None}
 use Rattle.channel.specs.Channels.{
   live,
   head_changed_in,
@@ -70,10 +69,10 @@ housed_started p position note velocity c h = go (eqb c.head.data_len 0)
     go true = h
     go false = headless (handled_of p (pushed_of v c)) (pushed_of v c) refl refl (housed_pushed v c h)
 
-housed_finished : (p : Params) (c : Channel) (f : Found) → Housed c → Housed (finished_at_of p c f)
+housed_finished : (p : Params) (c : Channel) (f : Option ℕ) → Housed c → Housed (finished_at_of p c f)
 unfolding finished_at_of handled_of
-housed_finished p c Nothing h = h
-housed_finished p c (At i) h = go (ltb i 32)
+housed_finished p c None h = h
+housed_finished p c (Some i) h = go (ltb i 32)
   where
     vs : List Voice
     vs = set c.voices i (finish_of c.head.now p.decay_samples (get_or c.voices i blank_voice))

@@ -9,7 +9,7 @@ use borrow.Author.Tests.{lt-ltb}
 use lib.Dec.{eqb}
 use lib.ListN.{length, get_elem?}
 use lib.Ieee.{Float}
-use Rattle.walks.specs.Walks.{any}
+use Rattle.std.specs.List.{list_any}
 use Rattle.common_types.specs.declared.Params.{Params}
 use Rattle.common_types.specs.declared.Note.{Note}
 use Rattle.voice.specs.declared.Voice.{Voice}
@@ -72,13 +72,13 @@ same_on : (u v w : Voice) → v ≡ at_speed_of v.speed w → u ≡ at_speed_of 
 unfolding at_speed_of
 same_on u v w h k = k ∙ ap (λ (z : Voice). at_speed_of u.speed z) h
 
-pub waits : (es : List Event) (c : Channel) → Housed c → any is_reset es ≡ false → any is_sample es ≡ false → (n : ℕ) (v : Voice) → voice_at c n ≡ some v
+pub waits : (es : List Event) (c : Channel) → Housed c → list_any is_reset es ≡ false → list_any is_sample es ≡ false → (n : ℕ) (v : Voice) → voice_at c n ≡ some v
     → stopped_in es c n ≡ false → Waits es c n v
-unfolding acts follow_all stopped_in any
+unfolding acts follow_all stopped_in
 waits [] c h r q n v s f = record { voice = v; follows = refl; stands = s; same = itself v }
 waits (e ∷ es) c h r q n v s f =
-    let a = neither (is_reset e) (any is_reset es) r in
-    let b = neither (is_sample e) (any is_sample es) q in
+    let a = neither (is_reset e) (list_any is_reset es) r in
+    let b = neither (is_sample e) (list_any is_sample es) q in
     let g = neither (stops e c n) (somewhere (follow e c n) (λ (k : ℕ). stopped_in es (act e c) k)) f in
     let k = wait_place e c n a.0 b.0 in
     let i : stopped_in es (act e c) n ≡ false = subst (λ (z : Place). somewhere z (λ (k : ℕ). stopped_in es (act e c) k) ≡ false) k g.1 in
@@ -104,10 +104,10 @@ module _ (p₀ : Params) (position : Float) (note : Note) (velocity : Float) whe
     pub stands : voice_at (act begin c) (length (live c)) ≡ some (born_of p₀ position note velocity c)
     stands = subst (λ (l : List Voice). get_elem? l (length (live c)) ≡ some (born_of p₀ position note velocity c)) (sym taken) (look_last (live c) (born_of p₀ position note velocity c))
 
-    pub on_time : (es : List Event) → any is_reset es ≡ false → any is_sample es ≡ false → stopped_in es (act begin c) (length (live c)) ≡ false
+    pub on_time : (es : List Event) → list_any is_reset es ≡ false → list_any is_sample es ≡ false → stopped_in es (act begin c) (length (live c)) ≡ false
         → (p : Params) (x : Float) (m : List ℕ) → empty_at m (acts (begin ∷ es) c) (born_of p₀ position note velocity c) ≡ false
         → First p x m (acts (begin ∷ es) c) (length (live c)) (born_of p₀ position note velocity c)
-    unfolding acts at_speed_of fresh_of is_reset is_sample any
+    unfolding acts at_speed_of fresh_of is_reset is_sample
     on_time es r q f p x m g =
         let w = waits es (act begin c) (housed begin c h) r q (length (live c)) (born_of p₀ position note velocity c) stands f in
         let z = clock_stands (begin ∷ es) c r q in

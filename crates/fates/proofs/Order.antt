@@ -13,8 +13,7 @@ use Rattle.voice.specs.declared.Voice.{Voice}
 use Rattle.voice.specs.Voices.{finish_of, blank_voice}
 use Rattle.channel.specs.declared.Channel.{Channel}
 use Rattle.channel.specs.declared.Change.TheVariants as change
-use Rattle.channel.specs.declared.Found.{Found}
-use Rattle.channel.specs.declared.Found.TheVariants.{At, Nothing}
+use Rattle.std.specs.Prelude.{Option as Found, Some, None}
 use Rattle.channel.specs.Channels.{
   live,
   find_of,
@@ -102,9 +101,9 @@ covered (changes (change.Start p position note velocity)) c h k u s =
     go false r = last (look_back (live c) v k u r)
 covered (changes (change.Stop p note)) c h k u s = inl (record { place = k; voice = get_or (live c) k blank_voice; stood = look_some (live c) k blank_voice (go (find_of note c) refl); follows = refl })
   where
-    go : (f : Found) → find_of note c ≡ f → k < length (live c)
-    go Nothing e = look_below (live c) k u (subst (λ (d : Channel). voice_at d k ≡ some u) (stopped_none p note c e) s)
-    go (At i) e =
+    go : (f : Found ℕ) → find_of note c ≡ f → k < length (live c)
+    go None e = look_below (live c) k u (subst (λ (d : Channel). voice_at d k ≡ some u) (stopped_none p note c e) s)
+    go (Some i) e =
         let f = found note c i e in
         let v : Voice = finish_of c.head.now p.decay_samples f.voice in
         omega (arith, look_below (set (live c) i v) k u (subst (λ (l : List Voice). get_elem? l k ≡ some u) (live_stopped p note c h i f.voice e f.stands) s), length-set (live c) i v)

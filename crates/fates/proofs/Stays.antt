@@ -7,7 +7,7 @@ use mathlib.Core.Option.{Option, some}
 use Prim.Native.Nat.{ℕ}
 use lib.ListN.{length, take}
 use lib.Ieee.{Float}
-use Rattle.walks.specs.Walks.{any}
+use Rattle.std.specs.List.{list_any}
 use Rattle.common_types.specs.declared.Note.{Note}
 use Rattle.voice.specs.declared.Voice.{Voice}
 use Rattle.voice.specs.declared.Tick.{Tick}
@@ -105,12 +105,12 @@ pub record StaysAll (es : List Event) (c : Channel) (n : ℕ) (v : Voice) : Type
   pub unfinished : voice.finished ≡ false
   pub phrase : voice.phrase ≡ v.phrase
 
-pub stays_all : (es : List Event) (c : Channel) → Housed c → any is_reset es ≡ false → (n : ℕ) (v : Voice) → voice_at c n ≡ some v → v.finished ≡ false
+pub stays_all : (es : List Event) (c : Channel) → Housed c → list_any is_reset es ≡ false → (n : ℕ) (v : Voice) → voice_at c n ≡ some v → v.finished ≡ false
     → finished_in es c n ≡ false → StaysAll es c n v
-unfolding acts follow_all finished_in any
+unfolding acts follow_all finished_in
 stays_all [] c h r n v s u f = record { place = n; voice = v; follows = refl; stands = s; unfinished = u; phrase = refl }
 stays_all (e ∷ es) c h r n v s u f =
-    let a = neither (is_reset e) (any is_reset es) r in
+    let a = neither (is_reset e) (list_any is_reset es) r in
     let b = neither (finishes e c n) (somewhere (follow e c n) (λ (k : ℕ). finished_in es (act e c) k)) f in
     let w = stays_one e c a.0 n v s u b.0 in
     let g : finished_in es (act e c) w.place ≡ false = subst (λ (z : Place). somewhere z (λ (k : ℕ). finished_in es (act e c) k) ≡ false) w.follows b.1 in
@@ -124,7 +124,7 @@ stays_all (e ∷ es) c h r n v s u f =
       phrase = q.phrase ∙ becomes_phrase e c n v;
     }
 
-pub stays : (es : List Event) (c : Channel) → Housed c → any is_reset es ≡ false → (n : ℕ) (v : Voice) → voice_at c n ≡ some v → v.finished ≡ false
+pub stays : (es : List Event) (c : Channel) → Housed c → list_any is_reset es ≡ false → (n : ℕ) (v : Voice) → voice_at c n ≡ some v → v.finished ≡ false
     → follow_all es c n ≡ gone → finished_in es c n ≡ true
 stays es c h r n v s u g = go (finished_in es c n) refl
   where

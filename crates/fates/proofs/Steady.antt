@@ -1,11 +1,11 @@
 -- Steady: where no sample asks for another length, speed, data length or mode, a voice keeps the clip that it has, and sounds by it where it then stands. Assumes nothing.
 use mathlib.Core.Path.{◌≡◌, refl, sym, ap, ◌∙◌, subst}
-use mathlib.Core.Bool.{Bool, true, false, not, ◌&&◌, cond, true≢false}
+use mathlib.Core.Bool.{Bool, true, false, not, ◌&&◌, cond}
 use mathlib.Core.List.{List, [], ◌∷◌, ◌++◌}
 use mathlib.Core.Option.{Option, some}
 use Prim.Native.Nat.{ℕ}
 use lib.Ieee.{Float, binary32, mul}
-use Rattle.walks.specs.Walks.{any}
+use Rattle.std.specs.List.{list_any}
 use Rattle.common_types.specs.declared.Params.{Params}
 use Rattle.volume.specs.Levels.{level_of}
 use Rattle.clip.specs.declared.Clip.{Clip}
@@ -24,15 +24,12 @@ use Rattle.fates.specs.Places.{Housed, voice_at, Place, at, gone, follow, finds_
 use Rattle.fates.specs.Sounding.{term_of, Sounds}
 use Rattle.fates.specs.Steady.{disagrees, alters, altered_in}
 use Rattle.walks.proofs.Tests.{neither, either}
+use borrow.Author.Tests.{not-false}
 use Rattle.fates.proofs.Own.{finds_kept, own_turn}
 use Rattle.fates.proofs.Housing.{housed}
 use Rattle.fates.proofs.Tracks.{at_same, gone_never, tracks}
 use Rattle.fates.proofs.Stays.{unfinished_sounds, stays_all}
 use Rattle.fates.proofs.Terms.{sounds_each}
-
-not-false : (b : Bool) → not b ≡ false → b ≡ true
-not-false true h = refl
-not-false false h = absurd (true≢false h)
 
 -- ---- one turn
 module _ (t : Tick) (m : List ℕ) (v : Voice) (a : agrees_of t v ≡ true) where
@@ -161,7 +158,7 @@ module _ (p : Params) (x : Float) (m : List ℕ) where
     pub follows : follow_all es c n ≡ at place
     pub beats : Beats p x m (acts es c) place q
 
-  pub beats_at : (es : List Event) (c : Channel) → Housed c → any is_reset es ≡ false → (n : ℕ) (v : Voice) → voice_at c n ≡ some v → v.finished ≡ false → finished_in es c n ≡ false
+  pub beats_at : (es : List Event) (c : Channel) → Housed c → list_any is_reset es ≡ false → (n : ℕ) (v : Voice) → voice_at c n ≡ some v → v.finished ≡ false → finished_in es c n ≡ false
       → empty_at m (acts es c) v ≡ false → altered_in (es ++ (sounds p x m ∷ [])) c n ≡ false → BeatsAt es c n v.clip2
   beats_at es c h r n v s u f e a =
       let w = stays_all es c h r n v s u f in

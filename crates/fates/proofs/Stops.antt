@@ -8,13 +8,13 @@ use native.Mathlib.Omega.{arith}
 use borrow.Author.Tests.{lt-ltb}
 use lib.ListN.{get_or, set, get_elem?}
 use lib.Seq.{take-set-lt, get_or-take}
-use Rattle.walks.specs.Walks.{seek}
+use Rattle.std.specs.List.{position_from}
 use Rattle.common_types.specs.declared.Params.{Params}
 use Rattle.common_types.specs.declared.Note.{Note}
 use Rattle.voice.specs.declared.Voice.{Voice}
 use Rattle.voice.specs.Voices.{finish_of, blank_voice}
 use Rattle.channel.specs.declared.Channel.{Channel}
-use Rattle.channel.specs.declared.Found.TheVariants.{At, Nothing}
+use Rattle.std.specs.Prelude.{Some, None}
 use Rattle.channel.specs.Channels.{live, handled_of, wanted_of, find_of, finished_at_of, stop_playing_of}
 use Rattle.fates.specs.Places.{Housed, voice_at}
 use Rattle.walks.proofs.Lists.Looks.{look_below, look-value}
@@ -28,12 +28,11 @@ module _ {A : Type 0} (p : A → Bool) where
     stands : get_elem? l steps ≡ some it
     wanted : p it ≡ true
 
-  seek_sought : (l : List A) (k i : ℕ) → seek At Nothing p k l ≡ At i → Sought l k i
-  unfolding seek
-  seek_sought [] k i h = let z : ◌≡◌ {A = ℕ} 0 1 = cc in absurd (omega arith)
-  seek_sought (y ∷ l) k i h = go (p y) refl h (seek_sought l (k + 1) i)
+  position_sought : (l : List A) (k i : ℕ) → position_from p k l ≡ Some i → Sought l k i
+  position_sought [] k i h = let z : ◌≡◌ {A = ℕ} 0 1 = cc in absurd (omega arith)
+  position_sought (y ∷ l) k i h = go (p y) refl h (position_sought l (k + 1) i)
     where
-      go : (b : Bool) → p y ≡ b → cond b (At k) (seek At Nothing p (k + 1) l) ≡ At i → (seek At Nothing p (k + 1) l ≡ At i → Sought l (k + 1) i) → Sought (y ∷ l) k i
+      go : (b : Bool) → p y ≡ b → cond b (Some k) (position_from p (k + 1) l) ≡ Some i → (position_from p (k + 1) l ≡ Some i → Sought l (k + 1) i) → Sought (y ∷ l) k i
       go true e h f = let z : k ≡ i = cc in record { steps = 0; it = y; sum = omega arith; stands = refl; wanted = e }
       go false e h f =
           let s = f h in
@@ -44,19 +43,19 @@ pub record Finds (note : Note) (c : Channel) (i : ℕ) : Type 0 where
   pub stands : voice_at c i ≡ some voice
   pub wanted : wanted_of note voice ≡ true
 
-pub found : (note : Note) (c : Channel) (i : ℕ) → find_of note c ≡ At i → Finds note c i
+pub found : (note : Note) (c : Channel) (i : ℕ) → find_of note c ≡ Some i → Finds note c i
 unfolding find_of
 found note c i h =
-    let s = seek_sought (wanted_of note) (live c) 0 i h in
+    let s = position_sought (wanted_of note) (live c) 0 i h in
     let e : s.steps ≡ i = omega (arith, s.sum) in
     record { voice = s.it; stands = subst (λ (n : ℕ). voice_at c n ≡ some s.it) e s.stands; wanted = s.wanted }
 
 -- ---- the voices afterwards
-pub stopped_none : (p : Params) (note : Note) (c : Channel) → find_of note c ≡ Nothing → stop_playing_of p note c ≡ c
+pub stopped_none : (p : Params) (note : Note) (c : Channel) → find_of note c ≡ None → stop_playing_of p note c ≡ c
 unfolding stop_playing_of finished_at_of
 stopped_none p note c h = rw h
 
-pub live_stopped : (p : Params) (note : Note) (c : Channel) → Housed c → (i : ℕ) (v : Voice) → find_of note c ≡ At i → voice_at c i ≡ some v
+pub live_stopped : (p : Params) (note : Note) (c : Channel) → Housed c → (i : ℕ) (v : Voice) → find_of note c ≡ Some i → voice_at c i ≡ some v
     → live (stop_playing_of p note c) ≡ set (live c) i (finish_of c.head.now p.decay_samples v)
 unfolding stop_playing_of finished_at_of handled_of
 live_stopped p note c h i v e k =

@@ -6,7 +6,7 @@ use mathlib.Core.Option.{some}
 use Prim.Native.Nat.{ℕ, zero, suc}
 use lib.ListN.{take, drop, get_elem?}
 use lib.Ieee.{Float, binary32, add, mul}
-use Rattle.walks.specs.Walks.{any, fold}
+use Rattle.std.specs.List.{list_any, fold}
 use Rattle.common_types.specs.declared.Params.{Params}
 use Rattle.binary32.specs.Leaves.{zero32}
 use Rattle.volume.specs.Levels.{level_of}
@@ -28,7 +28,7 @@ module _ (p : Params) (x : Float) (m : List ℕ) (c : Channel) where
 
   -- the output from `out` on
   heard_from : (out : Float) (vs : List Voice) → fold (turns_in p x m c).adds out vs ≡ fold (add binary32) out (terms_of p x m c vs)
-  unfolding fold terms_of added_of
+  unfolding terms_of added_of
   heard_from out [] = refl
   heard_from out (v ∷ vs) =
       ap (λ (y : Float). fold (turns_in p x m c).adds y vs) (own_adds p x m c v out)
@@ -76,7 +76,7 @@ pub record Later (p : Params) (x : Float) (m : List ℕ) (es : List Event) (c : 
   pub follows : follow_all es c n ≡ at place
   pub sounds : Sounds p x m (acts es c) place voice
 
-pub sounds_later : (es : List Event) (c : Channel) → Housed c → any is_reset es ≡ false → (n : ℕ) (v : Voice) → voice_at c n ≡ some v → v.finished ≡ false → finished_in es c n ≡ false
+pub sounds_later : (es : List Event) (c : Channel) → Housed c → list_any is_reset es ≡ false → (n : ℕ) (v : Voice) → voice_at c n ≡ some v → v.finished ≡ false → finished_in es c n ≡ false
     → (p : Params) (x : Float) (m : List ℕ) → empty_at m (acts es c) v ≡ false → Later p x m es c n
 sounds_later es c h r n v s u f p x m e =
     let w = stays_all es c h r n v s u f in

@@ -15,8 +15,7 @@ use Rattle.voice.specs.declared.Voice.{Voice}
 use Rattle.voice.specs.Voices.{finish_of}
 use Rattle.channel.specs.declared.Channel.{Channel}
 use Rattle.channel.specs.declared.Change.TheVariants as change
-use Rattle.channel.specs.declared.Found.{Found}
-use Rattle.channel.specs.declared.Found.TheVariants.{At, Nothing}
+use Rattle.std.specs.Prelude.{Option as Found, Some, None}
 use Rattle.channel.specs.Channels.{
   live,
   find_of,
@@ -55,19 +54,19 @@ look_stopped p note c h n v k = go (find_of note c) refl
     w : Voice
     w = finish_of c.head.now p.decay_samples v
 
-    placed : (i : ℕ) → find_of note c ≡ At i → (b : Bool) → eqb i n ≡ b → voice_at (stop_playing_of p note c) n ≡ some (cond b w v)
+    placed : (i : ℕ) → find_of note c ≡ Some i → (b : Bool) → eqb i n ≡ b → voice_at (stop_playing_of p note c) n ≡ some (cond b w v)
     placed i e true q =
         let z : i ≡ n = eqb-true i n q in
-        let l = live_stopped p note c h n v (e ∙ ap At z) k in
+        let l = live_stopped p note c h n v (e ∙ ap Some z) k in
         subst (λ (l : List Voice). get_elem? l n ≡ some w) (sym l) (look_set_same (live c) n v w k)
     placed i e false q =
         let f = found note c i e in
         subst (λ (l : List Voice). get_elem? l n ≡ some v) (sym (live_stopped p note c h i f.voice e f.stands))
         (look_set_other (live c) i n _ (eqb-false i n q) ∙ k)
 
-    go : (f : Found) → find_of note c ≡ f → voice_at (stop_playing_of p note c) n ≡ some (cond (finds_at f n) w v)
-    go Nothing e = subst (λ (d : Channel). voice_at d n ≡ some v) (sym (stopped_none p note c e)) k
-    go (At i) e = placed i e (eqb i n) refl
+    go : (f : Found ℕ) → find_of note c ≡ f → voice_at (stop_playing_of p note c) n ≡ some (cond (finds_at f n) w v)
+    go None e = subst (λ (d : Channel). voice_at d n ≡ some v) (sym (stopped_none p note c e)) k
+    go (Some i) e = placed i e (eqb i n) refl
 
 -- ---- a sample
 left_look : (s : Turning) (vs : List Voice) (n k : ℕ) (v : Voice) → get_elem? vs n ≡ some v → fate_of s vs n (some v) ≡ at k → get_elem? (kept_of s vs) k ≡ some (s.turn v)

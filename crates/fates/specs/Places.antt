@@ -8,8 +8,7 @@ use Rattle.voice.specs.declared.Voice.{Voice}
 use Rattle.voice.specs.Voices.{sounded_of, played_out_of, finish_of}
 use Rattle.channel.specs.declared.Channel.{Channel}
 use Rattle.channel.specs.declared.Change.TheVariants as change
-use Rattle.channel.specs.declared.Found.{Found}
-use Rattle.channel.specs.declared.Found.TheVariants.{At, Nothing}
+use Rattle.std.specs.Prelude.{Option as Found, Some, None}
 use Rattle.channel.specs.Channels.{live, find_of, sped_of, Turning, kept_of}
 use Rattle.fates.specs.Engine.{born_of, held_at, turns_in}
 use Rattle.fates.specs.Events.{Event, idle, changes, gathers, sounds, act, is_reset, empty_at, tick_at}
@@ -43,9 +42,9 @@ follow idle c n = at n
 
 -- ---- what the event makes of it
 
-abbrev pub finds_at : Found → ℕ → Bool
-finds_at (At i) n = eqb i n
-finds_at Nothing n = false
+abbrev pub finds_at : Found ℕ → ℕ → Bool
+finds_at (Some i) n = eqb i n
+finds_at None n = false
 
 -- a stop finds that voice: it is the first unfinished one with the note
 unfoldable pub stops : Event → Channel → ℕ → Bool

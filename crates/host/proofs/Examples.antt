@@ -11,12 +11,12 @@ use Rattle.common_types.specs.declared.LoopMode.TheVariants.{PlayOnce, Loop, Pin
 use Rattle.common_types.specs.declared.NoteOffBehaviour.TheVariants.{Decay, ZeroCrossing, DecayAndZeroCrossing}
 use Rattle.common_types.specs.declared.time_value.TimeOrRatio.TheVariants.{Time, Ratio, WholeBars}
 use Rattle.common_types.specs.declared.time_value.TimeValue.TheVariants.{QuarterNotes, Samples, Seconds, Bars}
-use Rattle.recorder.specs.declared.LastOffset.TheVariants.{At, Nothing}
+use Rattle.std.specs.Prelude.{Some, None, Ok, Err}
+use Rattle.refusals.specs.declared.Refusal.TheVariants.{NoChannel, Broken}
+use Rattle.refusals.specs.Refusals.{code_of}
 use Rattle.channel.specs.Tables.{head_asks, asks_of}
 use Rattle.sampler.specs.declared.Sampler.{Sampler}
 use Rattle.sampler.specs.Samplers.{choose_phrase_of, delete_phrase_of}
-use Rattle.questions.specs.declared.Told.TheVariants as told
-use Rattle.questions.specs.declared.OffsetAnswer.TheVariants as offset
 use Rattle.recordings.proofs.Examples.{computing as calling}
 use Rattle.smf.proofs.Examples.{computing as reading}
 use Rattle.smf.specs.Cues.{counted_judged}
@@ -100,8 +100,8 @@ abbrev new : Sampler
 new = (set_up_by 1 false 8).sampler
 
 pub phrases_met : (map phrase_byte (0 ∷ 7 ∷ 8 ∷ 255 ∷ 256 ∷ 2 ^ 32 ∷ []) ≡ 0 ∷ 7 ∷ 8 ∷ 255 ∷ 255 ∷ 255 ∷ [])
-    × (map (λ (n : ℕ). (choose_phrase_of new (phrase_byte n)).number) (0 ∷ 7 ∷ 8 ∷ 255 ∷ 256 ∷ 2 ^ 32 ∷ []) ≡ 0 ∷ 0 ∷ 19 ∷ 19 ∷ 19 ∷ 19 ∷ [])
-    × (map (λ (n : ℕ). (delete_phrase_of new (phrase_byte n)).number) (0 ∷ 7 ∷ 8 ∷ 255 ∷ 256 ∷ 2 ^ 32 ∷ []) ≡ 0 ∷ 0 ∷ 19 ∷ 19 ∷ 19 ∷ 19 ∷ [])
+    × (map (λ (n : ℕ). code_of (choose_phrase_of new (phrase_byte n)).done) (0 ∷ 7 ∷ 8 ∷ 255 ∷ 256 ∷ 2 ^ 32 ∷ []) ≡ 0 ∷ 0 ∷ 19 ∷ 19 ∷ 19 ∷ 19 ∷ [])
+    × (map (λ (n : ℕ). code_of (delete_phrase_of new (phrase_byte n)).done) (0 ∷ 7 ∷ 8 ∷ 255 ∷ 256 ∷ 2 ^ 32 ∷ []) ≡ 0 ∷ 0 ∷ 19 ∷ 19 ∷ 19 ∷ 19 ∷ [])
 unfolding calling head_asks asks_of
 phrases_met = (refl, refl, refl)
 
@@ -109,13 +109,13 @@ phrases_met = (refl, refl, refl)
 abbrev counting : ℕ → ℕ → Count
 counting n number = record { count = n; number = number }
 
-pub told_met : map told_by (told.Done true ∷ told.Done false ∷ told.Refused 9 ∷ []) ≡ counting 1 0 ∷ counting 0 0 ∷ counting 0 9 ∷ []
+pub told_met : map told_by (Ok true ∷ Ok false ∷ Err Broken ∷ []) ≡ counting 1 0 ∷ counting 0 0 ∷ counting 0 9 ∷ []
 told_met = refl
 
 abbrev placed : ℕ → ℕ → ℕ → Offset
 placed n number found = record { at = n; number = number; found = found }
 
-pub offsets_met : map offset_by (offset.Done (At 0) ∷ offset.Done Nothing ∷ offset.Refused 1 ∷ []) ≡ placed 0 0 1 ∷ placed 0 0 0 ∷ placed 0 1 0 ∷ []
+pub offsets_met : map offset_by (Ok (Some 0) ∷ Ok None ∷ Err NoChannel ∷ []) ≡ placed 0 0 1 ∷ placed 0 0 0 ∷ placed 0 1 0 ∷ []
 offsets_met = refl
 
 -- a song of a start and a stop: in a list with room for both, in one that is a word short, at a rate that is none; and no song

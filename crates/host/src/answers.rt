@@ -14,13 +14,15 @@ ghost use Rattle.questions.specs.Questions.{
 ghost use Rattle.questions.specs.Lists.{voice_info_counted, voice_info_after};
 ghost use Rattle.questions.specs.Waveforms.{get_waveform_summary_of, waveform_after};
 ghost use Rattle.recordings.specs.Waves.{write_wave_of, wave_after};
-ghost use Rattle.host.specs.Crossing.{count_by, told_by, offset_by, entries_by};
+ghost use Rattle.host.specs.Crossing.{refused_by, count_by, told_by, offset_by, summary_by, entries_by};
 
 use common_types::Params;
-use questions::{Counted, OffsetAnswer, Told, VoiceInfo, WaveformSummary};
-use recorder::LastOffset;
+use questions::{VoiceInfo, WaveformSummary};
+use refusals::Refusal;
 use sampler::Sampler;
+use smf::SongRefusal;
 
+// These structs are the C interface's (host/vusatica.c), with a number for a refusal and 0 for none.
 #[derive(Clone, Copy)]
 pub struct Count {
     pub count: usize,
@@ -35,62 +37,98 @@ pub struct Offset {
     pub found: u8,
 }
 
-fn count_by(counted: Counted) -> Count
+// A summary's extremes: 0 where it is refused.
+#[derive(Clone, Copy)]
+pub struct Summary {
+    pub smallest: f32,
+    pub largest: f32,
+    pub number: u8,
+}
+
+fn refused(refusal: Refusal) -> Count
+    ensures { result ≡ refused_by refusal }
+{
+    let number = refusal.number();
+    Count { count: 0, number }
+}
+
+// Functions, and no `From`: each is named in the contracts of the calls below, and two of them make a `Count`.
+fn count_by(counted: Result<usize, Refusal>) -> Count
     ensures { result ≡ count_by counted }
 {
     match counted {
-        Counted::Done(count) => Count { count, number: 0 },
-        Counted::Refused(number) => Count { count: 0, number },
+        Ok(count) => Count { count, number: 0 },
+        Err(refusal) => refused(refusal),
     }
 }
 
 // A yes is 1.
-fn told_by(told: Told) -> Count
+fn told_by(told: Result<bool, Refusal>) -> Count
     ensures { result ≡ told_by told }
 {
     match told {
-        Told::Done(so) => Count {
+        Ok(so) => Count {
             count: if so { 1 } else { 0 },
             number: 0,
         },
-        Told::Refused(number) => Count { count: 0, number },
+        Err(refusal) => refused(refusal),
     }
 }
 
-fn offset_by(answer: OffsetAnswer) -> Offset
+fn offset_by(answer: Result<Option<usize>, Refusal>) -> Offset
     ensures { result ≡ offset_by answer }
 {
     match answer {
-        OffsetAnswer::Done(last) => match last {
-            LastOffset::At(at) => Offset {
-                at,
-                number: 0,
-                found: 1,
-            },
-            LastOffset::Nothing => Offset {
-                at: 0,
-                number: 0,
-                found: 0,
-            },
+        Ok(Some(at)) => Offset {
+            at,
+            number: 0,
+            found: 1,
         },
-        OffsetAnswer::Refused(number) => Offset {
+        Ok(None) => Offset {
             at: 0,
-            number,
+            number: 0,
+            found: 0,
+        },
+        Err(refusal) => Offset {
+            at: 0,
+            number: refusal.number(),
             found: 0,
         },
     }
 }
 
+fn summary_by(answer: Result<WaveformSummary, Refusal>) -> Summary
+    ensures { result ≡ summary_by answer }
+{
+    match answer {
+        Ok(summary) => Summary {
+            smallest: summary.smallest,
+            largest: summary.largest,
+            number: 0,
+        },
+        Err(refusal) => Summary {
+            smallest: 0.0,
+            largest: 0.0,
+            number: refusal.number(),
+        },
+    }
+}
+
 // A list that is too short is told how many entries the song has.
-fn entries_by(counted: smf::Counted) -> Count
+#[tactic(auto, unfolding(smf::specs::Cues::cues_number))]
+fn entries_by(counted: Result<usize, SongRefusal>) -> Count
     ensures { result ≡ entries_by counted }
 {
-    let number = counted.number();
     match counted {
-        smf::Counted::Done(count) => Count { count, number },
-        smf::Counted::BadRate => Count { count: 0, number },
-        smf::Counted::Faulty(_) => Count { count: 0, number },
-        smf::Counted::Short(count) => Count { count, number },
+        Ok(count) => Count { count, number: 0 },
+        Err(refusal) => {
+            let number = refusal.number();
+            match refusal {
+                SongRefusal::BadRate => Count { count: 0, number },
+                SongRefusal::Faulty(_) => Count { count: 0, number },
+                SongRefusal::Short(count) => Count { count, number },
+            }
+        }
     }
 }
 
@@ -147,13 +185,13 @@ pub fn write_wave(s: &Sampler, rate: u32, memory: &[u32], file: &mut [u8]) -> Co
     count_by(lent_sampler::write_wave(s, rate, memory, file))
 }
 
-pub fn waveform(s: &Sampler, columns: usize, values: &mut [f32], memory: &[u32]) -> WaveformSummary
+pub fn waveform(s: &Sampler, columns: usize, values: &mut [f32], memory: &[u32]) -> Summary
     ensures { (result
-        ≡ get_waveform_summary_of s.now columns (length values.old) memory.now)
+        ≡ summary_by (get_waveform_summary_of s.now columns (length values.old) memory.now))
         × (values.new
         ≡ waveform_after s.now columns values.old memory.now) }
 {
-    lent_sampler::get_waveform_summary(s, columns, values, memory)
+    summary_by(lent_sampler::get_waveform_summary(s, columns, values, memory))
 }
 
 pub fn read_song(file: &[u8], rate: u32, list: &mut [u64]) -> Count

@@ -22,16 +22,18 @@ ghost use Rattle.sampler.specs.Samplers.{
   ran_of,
   run_answer,
 };
+ghost use Rattle.refusals.specs.Refusals.{code_of};
+ghost use Rattle.lent_sampler.specs.Hearing.{done_in, heard_in, moved_in};
 ghost use Rattle.sampler.specs.Refusals.{frame_number};
 ghost use Rattle.recordings.specs.Waves.{read_wave_of, read_memory};
 ghost use Rattle.songs.specs.Plays.{play_of};
-ghost use Rattle.host.specs.Crossing.{phrase_byte};
+ghost use Rattle.host.specs.Crossing.{phrase_byte, Coded, sampled_by, ran_by, rate_by};
 
 use channel::{Change, HeadChange};
 use common_types::{Note, Params};
-use lent_sampler::{FrameDone, Sampled};
+use lent_channel::Heard;
 use lent_songs::Played;
-use recordings::WaveRead;
+use refusals::Refusal;
 use sampler::{Ran, Sampler};
 
 // Each key, and each call that names a phrase, is the change that a function makes of the host's numbers.
@@ -91,77 +93,111 @@ pub fn start_playing(
     velocity: f32,
     params: Params,
 ) -> u8
-    ensures { record { sampler = s.new; number = result }
-        ≡ start_playing_of s.old position (note_of note channel) velocity params }
+    ensures { Coded (start_playing_of s.old position (note_of note channel) velocity params) s.new result }
 {
-    lent_sampler::change(s, start_of(position, note, channel, velocity, params))
+    refusals::code(lent_sampler::change(s, start_of(position, note, channel, velocity, params)))
 }
 
 pub fn stop_playing(s: &mut Sampler, note: u8, channel: u8, params: Params) -> u8
-    ensures { record { sampler = s.new; number = result }
-        ≡ stop_playing_of s.old (note_of note channel) params }
+    ensures { Coded (stop_playing_of s.old (note_of note channel) params) s.new result }
 {
-    lent_sampler::change(s, stop_of(note, channel, params))
+    refusals::code(lent_sampler::change(s, stop_of(note, channel, params)))
 }
 
 pub fn set_note_speed(s: &mut Sampler, note: u8, channel: u8, speed: f32) -> u8
-    ensures { record { sampler = s.new; number = result }
-        ≡ set_note_speed_of s.old (note_of note channel) speed }
+    ensures { Coded (set_note_speed_of s.old (note_of note channel) speed) s.new result }
 {
-    lent_sampler::change(s, speed_of(note, channel, speed))
+    refusals::code(lent_sampler::change(s, speed_of(note, channel, speed)))
 }
 
 pub fn start_recording(s: &mut Sampler) -> u8
-    ensures { record { sampler = s.new; number = result } ≡ start_recording_of s.old }
+    ensures { Coded (start_recording_of s.old) s.new result }
 {
-    lent_sampler::start_recording(s)
+    refusals::code(lent_sampler::start_recording(s))
 }
 
 pub fn stop_recording(s: &mut Sampler) -> u8
-    ensures { record { sampler = s.new; number = result } ≡ stop_recording_of s.old }
+    ensures { Coded (stop_recording_of s.old) s.new result }
 {
-    lent_sampler::stop_recording(s)
+    refusals::code(lent_sampler::stop_recording(s))
 }
 
 pub fn set_interpolation(s: &mut Sampler, on: bool) -> u8
-    ensures { record { sampler = s.new; number = result } ≡ set_interpolation_of s.old on }
+    ensures { Coded (set_interpolation_of s.old on) s.new result }
 {
-    lent_sampler::set_interpolation(s, on)
+    refusals::code(lent_sampler::set_interpolation(s, on))
 }
 
 pub fn choose_phrase(s: &mut Sampler, phrase: usize) -> u8
-    ensures { record { sampler = s.new; number = result }
-        ≡ choose_phrase_of s.old (phrase_byte phrase) }
+    ensures { Coded (choose_phrase_of s.old (phrase_byte phrase)) s.new result }
 {
-    lent_sampler::change(s, choice_of(phrase))
+    refusals::code(lent_sampler::change(s, choice_of(phrase)))
 }
 
 pub fn delete_phrase(s: &mut Sampler, phrase: usize) -> u8
-    ensures { record { sampler = s.new; number = result }
-        ≡ delete_phrase_of s.old (phrase_byte phrase) }
+    ensures { Coded (delete_phrase_of s.old (phrase_byte phrase)) s.new result }
 {
-    lent_sampler::change(s, deletion_of(phrase))
+    refusals::code(lent_sampler::change(s, deletion_of(phrase)))
 }
 
 pub fn reset(s: &mut Sampler) -> u8
-    ensures { record { sampler = s.new; number = result } ≡ reset_of s.old }
+    ensures { Coded (reset_of s.old) s.new result }
 {
-    lent_sampler::reset(s)
+    refusals::code(lent_sampler::reset(s))
 }
 
 pub fn gather(s: &mut Sampler, memory: &mut [u32]) -> u8
-    ensures { (record { sampler = s.new; number = result } ≡ gather_of s.old memory.old)
+    ensures { Coded (gather_of s.old memory.old) s.new result
         × (memory.new ≡ gather_memory s.old memory.old) }
 {
-    lent_sampler::gather(s, memory)
+    refusals::code(lent_sampler::gather(s, memory))
 }
 
-pub fn read_wave(s: &mut Sampler, file: &[u8], memory: &mut [u32]) -> WaveRead
-    ensures { (record { sampler = s.new; read = result }
-        ≡ read_wave_of s.old file.now (length memory.old))
+// These structs are the C interface's (host/vusatica.c), with a number for a refusal and 0 for none. A file's rate:
+#[derive(Clone, Copy)]
+pub struct RateRead {
+    pub rate: u32,
+    pub number: u8,
+}
+
+fn rate_by(read: Result<u32, Refusal>) -> RateRead
+    ensures { result ≡ rate_by read }
+{
+    match read {
+        Ok(rate) => RateRead { rate, number: 0 },
+        Err(refusal) => RateRead {
+            rate: 0,
+            number: refusal.number(),
+        },
+    }
+}
+
+pub fn read_wave(s: &mut Sampler, file: &[u8], memory: &mut [u32]) -> RateRead
+    ensures { (s.new ≡ (read_wave_of s.old file.now (length memory.old)).sampler)
+        × (result ≡ rate_by (read_wave_of s.old file.now (length memory.old)).read)
         × (memory.new ≡ read_memory s.old file.now memory.old) }
 {
-    lent_sampler::read_wave(s, file, memory)
+    rate_by(lent_sampler::read_wave(s, file, memory))
+}
+
+// How many voices of a frame's channels moved up:
+#[derive(Clone, Copy)]
+pub struct FrameDone {
+    pub number: u8,
+    pub moved: u8,
+}
+
+pub fn frame_by(done: Result<u8, Refusal>) -> FrameDone
+    ensures number_value { result.number ≡ code_of (done_in done) }
+    ensures moved_value { result.moved ≡ moved_in done }
+{
+    match done {
+        Ok(moved) => FrameDone { number: 0, moved },
+        Err(refusal) => FrameDone {
+            number: refusal.number(),
+            moved: 0,
+        },
+    }
 }
 
 pub fn process_frame(
@@ -176,16 +212,66 @@ pub fn process_frame(
         frame.new memory.new
         × (result.moved ≡ frame_moved s.old frame.old params memory.old) }
 {
-    lent_sampler::process_frame(s, frame, params, memory)
+    frame_by(lent_sampler::process_frame(s, frame, params, memory))
 }
 
-pub fn process_frames(s: &mut Sampler, run: &mut [f32], params: Params, memory: &mut [u32]) -> Ran
+// The frames of a run that are done:
+#[derive(Clone, Copy)]
+pub struct RunDone {
+    pub frames: usize,
+    pub number: u8,
+}
+
+pub fn ran_by(ran: Ran) -> RunDone
+    ensures { result ≡ ran_by ran }
+{
+    RunDone {
+        frames: ran.frames,
+        number: refusals::code(ran.done),
+    }
+}
+
+pub fn process_frames(
+    s: &mut Sampler,
+    run: &mut [f32],
+    params: Params,
+    memory: &mut [u32],
+) -> RunDone
     ensures { (result
-        ≡ run_answer s.old (length run.old) params (length memory.old))
+        ≡ ran_by (run_answer s.old (length run.old) params (length memory.old)))
         × Frames (ran_of s.old run.old params memory.old) s.new
         run.new memory.new }
 {
-    lent_sampler::process_frames(s, run, params, memory)
+    ran_by(lent_sampler::process_frames(s, run, params, memory))
+}
+
+// What is heard of a sample, and how many voices moved up: of a refused one nothing, and none.
+#[derive(Clone, Copy)]
+pub struct Sampled {
+    pub output: f32,
+    pub number: u8,
+    pub moved: u8,
+}
+
+pub fn heard_by(heard: Result<Heard, Refusal>) -> Sampled
+    ensures { result ≡ record {
+      output = (heard_in heard).output;
+      number = code_of (done_in heard);
+      moved = (heard_in heard).moved;
+    } }
+{
+    match heard {
+        Ok(heard) => Sampled {
+            output: heard.output,
+            number: 0,
+            moved: heard.moved,
+        },
+        Err(refusal) => Sampled {
+            output: 0.0,
+            number: refusal.number(),
+            moved: 0,
+        },
+    }
 }
 
 pub fn process_sample(
@@ -195,11 +281,11 @@ pub fn process_sample(
     params: Params,
     memory: &mut [u32],
 ) -> Sampled
-    ensures { (record { sampler = s.new; output = result.output; number = result.number; moved = result.moved }
-        ≡ process_sample_of s.old channel input params memory.old)
+    ensures { (s.new ≡ (process_sample_of s.old channel input params memory.old).sampler)
+        × (result ≡ sampled_by (process_sample_of s.old channel input params memory.old))
         × (memory.new ≡ sample_memory s.old channel input params memory.old) }
 {
-    lent_sampler::process_sample(s, channel, input, params, memory)
+    heard_by(lent_sampler::process_sample(s, channel, input, params, memory))
 }
 
 // The calls of a song's list that are due before that frame, from the entry `next` on.

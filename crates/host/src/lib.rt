@@ -1,6 +1,6 @@
 // What a host in C or Rust calls: functions of one lent record, or two, scalars and slices over the proved calls. What a host
 // gives as a byte may be any byte, and each answer is plain numbers.
-#![tactic(auto)]
+#![tactic(auto, using(crate::proofs::Codes::coded))]
 
 pub mod answers;
 pub mod backed;

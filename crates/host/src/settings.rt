@@ -4,7 +4,7 @@ ghost use Rattle.host.specs.Crossing.{known, params_by, made_by, set_up_by};
 
 use common_types::{InitParams, Params, Transport};
 use listing::records::{loop_length, loop_mode, note_off};
-use sampler::{Answer, Sampler};
+use sampler::Sampler;
 
 // The parameters as a host gives them, in an order without holes.
 #[derive(Clone, Copy)]
@@ -76,8 +76,19 @@ pub fn params_made(settings: Settings) -> Made
     }
 }
 
-pub fn set_up(channel_count: usize, auto_passthru: bool, memory: &[u32]) -> Answer
+// A new record, and the number of its set-up. A struct of the C interface (host/vusatica.c).
+#[derive(Clone, Copy)]
+pub struct NewSampler {
+    pub sampler: Sampler,
+    pub number: u8,
+}
+
+pub fn set_up(channel_count: usize, auto_passthru: bool, memory: &[u32]) -> NewSampler
     ensures { result ≡ set_up_by channel_count auto_passthru (length memory.now) }
 {
-    Sampler::new(channel_count, InitParams { auto_passthru }, memory)
+    let answer = Sampler::new(channel_count, InitParams { auto_passthru }, memory);
+    NewSampler {
+        sampler: answer.sampler,
+        number: refusals::code(answer.done),
+    }
 }

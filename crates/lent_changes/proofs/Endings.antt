@@ -2,9 +2,8 @@
 use mathlib.Core.Path.{◌≡◌, refl}
 use mathlib.Core.Bool.{Bool, true, false, not, ◌&&◌, beq, cond}
 use lib.Dec.{eqb}
-use Rattle.binary32.specs.Leaves.{zero32, one32}
+use Rattle.std.specs.Prelude.{Some, None}
 use Rattle.common_types.specs.declared.Params.{Params}
-use Rattle.volume.specs.Levels.{toward_of}
 use Rattle.channel.specs.declared.Head.{Head}
 use Rattle.channel.specs.declared.Change.{Change}
 use Rattle.channel.specs.declared.Change.TheVariants as change
@@ -19,7 +18,7 @@ unfolding handled_by passing_if handled_if passthru_of ramp_of
 passed_if asked h q unfinished = go asked (passes_of q unfinished) h.passthru_on
   where
     go : (asked on was : Bool)
-        → cond (asked && not (beq on was)) (with_passthru on (toward_of h.passthru_volume h.now (cond on q.attack_samples q.decay_samples) (cond on one32 zero32)) h) h
+        → handled_by (cond (asked && not (beq on was)) (Some (record { on = on; samples = cond on q.attack_samples q.decay_samples })) None) h
         ≡ cond asked (cond (beq on was) h (with_passthru on (ramp_of h.passthru_volume h.now q on) h)) h
     go false on was = refl
     go true true true = refl

@@ -12,7 +12,8 @@ use lib.Ieee.{Float}
 use lib.ListN.{length, length-set, take, drop, get_or, set, take-append-drop}
 use lib.Seq.{sets, sets-eq, length-take-le, set-get_or, get_or-set_same, take-set-lt, drop-set-lt, get_or-take, take_all}
 use Rattle.binary32.specs.Leaves.{zero32}
-use Rattle.walks.specs.Walks.{any, seek}
+use Rattle.std.specs.List.{list_any}
+use Rattle.std.specs.List.{position_from}
 use Rattle.walks.proofs.Tests.{and-true, or-false}
 use Rattle.walks.proofs.Lists.Fronts.{any_next}
 use Rattle.walks.proofs.Lists.Loops.{take_most}
@@ -26,8 +27,7 @@ use Rattle.channel.specs.declared.Change.{Change}
 use Rattle.channel.specs.declared.Change.TheVariants as change
 use Rattle.channel.specs.declared.Channel.{Channel}
 use Rattle.channel.specs.declared.Entry.{Entry}
-use Rattle.channel.specs.declared.Found.{Found}
-use Rattle.channel.specs.declared.Found.TheVariants.{At, Nothing}
+use Rattle.std.specs.Prelude.{Option, Some, None}
 use Rattle.channel.specs.Heads.{moment_of}
 use Rattle.channel.specs.Tables.{place_of, names_of, entry_stored, stored_by}
 use Rattle.channel.specs.Channels.{with_voices, beside_in, unfinished_of, same_note, wanted_of, sped_of, any_unfinished_of, handled_of, pushed_of, start_playing_of, find_of, finished_at_of, stop_playing_of, set_note_speed_of, head_changed_in, reset_of, changed_of}
@@ -170,16 +170,16 @@ module _ (turns count now decay : ℕ) (speed : Float) (note : Note) (fresh : Bo
       ap (λ (c : Bool). cond c (remade_of (stop true u) v) v ∷ outs_of (passed_of (stop true u) v c) vs) (no_hit u v)
       ∙ ap (λ (l : List Voice). v ∷ l) (outs_found (u || unfinished_of v) vs)
 
-  last_found : (u : Bool) (vs : List Voice) → last_of (stop true u) vs ≡ stop true (u || any unfinished_of vs)
-  unfolding passed_of any
+  last_found : (u : Bool) (vs : List Voice) → last_of (stop true u) vs ≡ stop true (u || list_any unfinished_of vs)
+  unfolding passed_of
   last_found u [] = ap (stop true) (or-false u)
   last_found u (v ∷ vs) =
-      ap (λ (c : Bool). last_of (passed_of (stop true u) v c) vs) (no_hit u v) ∙ last_found (u || unfinished_of v) vs ∙ ap (stop true) (or_assoc u (unfinished_of v) (any unfinished_of vs))
+      ap (λ (c : Bool). last_of (passed_of (stop true u) v c) vs) (no_hit u v) ∙ last_found (u || unfinished_of v) vs ∙ ap (stop true) (or_assoc u (unfinished_of v) (list_any unfinished_of vs))
 
   -- what it comes to: no voice is wanted, or the first that is has been finished
   data Comes (k : ℕ) (u : Bool) (vs : List Voice) : Type 0 where
-    none_wanted : seek At Nothing (wanted_of note) k vs ≡ Nothing → outs_of (stop false u) vs ≡ vs → (last_of (stop false u) vs).found ≡ false → (last_of (stop false u) vs).fresh ≡ fresh → (last_of (stop false u) vs).count ≡ count → Comes k u vs
-    one_wanted : (j : ℕ) → seek At Nothing (wanted_of note) k vs ≡ At (k + j) → j < length vs → outs_of (stop false u) vs ≡ set vs j (finish_of now decay (get_or vs j blank_voice)) → last_of (stop false u) vs ≡ stop true (u || any unfinished_of (outs_of (stop false u) vs)) → Comes k u vs
+    none_wanted : position_from (wanted_of note) k vs ≡ None → outs_of (stop false u) vs ≡ vs → (last_of (stop false u) vs).found ≡ false → (last_of (stop false u) vs).fresh ≡ fresh → (last_of (stop false u) vs).count ≡ count → Comes k u vs
+    one_wanted : (j : ℕ) → position_from (wanted_of note) k vs ≡ Some (k + j) → j < length vs → outs_of (stop false u) vs ≡ set vs j (finish_of now decay (get_or vs j blank_voice)) → last_of (stop false u) vs ≡ stop true (u || list_any unfinished_of (outs_of (stop false u) vs)) → Comes k u vs
 
   abbrev outs_at : Bool → Voice → List Voice → Bool → List Voice
   outs_at u v vs c = cond c (remade_of (stop false u) v) v ∷ outs_of (passed_of (stop false u) v c) vs
@@ -193,19 +193,19 @@ module _ (turns count now decay : ℕ) (speed : Float) (note : Note) (fresh : Bo
   hit_is u v = refl
 
   comes : (k : ℕ) (u : Bool) (vs : List Voice) → Comes k u vs
-  unfolding seek any passed_of remade_of finish_of
+  unfolding passed_of remade_of finish_of
   comes k u [] = none_wanted refl refl refl refl refl
   comes k u (v ∷ vs) = go (wanted_of note v) refl (comes (k + 1) (u || unfinished_of v) vs)
     where
-      found : Bool → Found
-      found c = cond c (At k) (seek At Nothing (wanted_of note) (k + 1) vs)
+      found : Bool → Option ℕ
+      found c = cond c (Some k) (position_from (wanted_of note) (k + 1) vs)
 
       go : (c : Bool) → wanted_of note v ≡ c → Comes (k + 1) (u || unfinished_of v) vs → Comes k u (v ∷ vs)
       go true e rest =
           let e_hit : hits_of (stop false u) v ≡ true = hit_is u v ∙ e in
           let outs : outs_of (stop false u) (v ∷ vs) ≡ finish_of now decay v ∷ vs = ap (outs_at u v vs) e_hit ∙ ap (λ (l : List Voice). finish_of now decay v ∷ l) (outs_found (u || false) vs) in
-          one_wanted 0 (ap found e ∙ ap At (sym (add-zero k))) (omega arith) outs
-          (ap (last_at u v vs) e_hit ∙ last_found (u || false) vs ∙ ap (stop true) (or_assoc u false (any unfinished_of vs)) ∙ ap (λ (l : List Voice). stop true (u || any unfinished_of l)) (sym outs))
+          one_wanted 0 (ap found e ∙ ap Some (sym (add-zero k))) (omega arith) outs
+          (ap (last_at u v vs) e_hit ∙ last_found (u || false) vs ∙ ap (stop true) (or_assoc u false (list_any unfinished_of vs)) ∙ ap (λ (l : List Voice). stop true (u || list_any unfinished_of l)) (sym outs))
       go false e (none_wanted s outs f g n) =
           let e_hit : hits_of (stop false u) v ≡ false = hit_is u v ∙ e in
           none_wanted (ap found e ∙ s) (ap (outs_at u v vs) e_hit ∙ ap (λ (l : List Voice). v ∷ l) outs)
@@ -213,8 +213,8 @@ module _ (turns count now decay : ℕ) (speed : Float) (note : Note) (fresh : Bo
       go false e (one_wanted j s lt outs last) =
           let e_hit : hits_of (stop false u) v ≡ false = hit_is u v ∙ e in
           let here : outs_of (stop false u) (v ∷ vs) ≡ v ∷ outs_of (stop false (u || unfinished_of v)) vs = ap (outs_at u v vs) e_hit in
-          one_wanted (suc j) (ap found e ∙ s ∙ ap At (omega arith)) (omega (arith, lt)) (here ∙ ap (λ (l : List Voice). v ∷ l) outs)
-          (ap (last_at u v vs) e_hit ∙ last ∙ ap (stop true) (or_assoc u (unfinished_of v) (any unfinished_of (outs_of (stop false (u || unfinished_of v)) vs))) ∙ ap (λ (l : List Voice). stop true (u || any unfinished_of l)) (sym here))
+          one_wanted (suc j) (ap found e ∙ s ∙ ap Some (omega arith)) (omega (arith, lt)) (here ∙ ap (λ (l : List Voice). v ∷ l) outs)
+          (ap (last_at u v vs) e_hit ∙ last ∙ ap (stop true) (or_assoc u (unfinished_of v) (list_any unfinished_of (outs_of (stop false (u || unfinished_of v)) vs))) ∙ ap (λ (l : List Voice). stop true (u || list_any unfinished_of l)) (sym here))
 
 -- ---- the calls
 module _ (h : Channel) (all : length h.voices ≡ 32) where
@@ -234,9 +234,9 @@ module _ (h : Channel) (all : length h.voices ≡ 32) where
     abbrev vs : List Voice
     vs = take n l
 
-    finds : find_of note h ≡ seek At Nothing (wanted_of note) 0 vs
+    finds : find_of note h ≡ position_from (wanted_of note) 0 vs
     unfolding find_of
-    finds = ap (seek At Nothing (wanted_of note) 0) (sym (take_most l h.count 32 all))
+    finds = ap (position_from (wanted_of note) 0) (sym (take_most l h.count 32 all))
 
     abbrev made : Bool → ℕ → Bool → Bool → List Voice → Channel
     made fresh count found unfinished k = record { voices = cond fresh (set k h.count blank_voice) k; table = h.table; count = count; head = handled_if found h.head q unfinished; several = h.several }
@@ -256,12 +256,12 @@ module _ (h : Channel) (all : length h.voices ≡ 32) where
         let w : Voice = finish_of h.head.now q.decay_samples (get_or l j blank_voice) in
         let out : outs_of (p false false) vs ≡ take n (set l j w)
         = outs ∙ ap (λ (u : Voice). set vs j (finish_of h.head.now q.decay_samples u)) (get_or-take n l j blank_voice below) ∙ sym (take-set-lt n l j w below) in
-        let u : Bool = any unfinished_of (outs_of (p false false) vs) in
+        let u : Bool = list_any unfinished_of (outs_of (p false false) vs) in
         ap (λ (r : Pass). made r.fresh r.count r.found r.unfinished (sets l 0 (outs_of (p false false) vs))) last
-        ∙ ap (λ (b : List Voice). made false h.count true (any unfinished_of b) (sets l 0 b)) out
-        ∙ ap (made false h.count true (any unfinished_of (take n (set l j w)))) (fronts l (set l j w) n within (length-set l j w) (sym (drop-set-lt n l j w below)))
-        ∙ ap (λ (b : List Voice). made false h.count true (any unfinished_of b) (set l j w)) (take_most (set l j w) h.count 32 (length-set l j w ∙ all))
-        ∙ sym (ap (finished_at_of q h) (finds ∙ s ∙ ap At (zero-add j)) ∙ ap (λ (b : Bool). cond b (handled_of q (with_voices (set l j w) h.count h)) h) (lt-ltb j 32 (omega (arith, below))))
+        ∙ ap (λ (b : List Voice). made false h.count true (list_any unfinished_of b) (sets l 0 b)) out
+        ∙ ap (made false h.count true (list_any unfinished_of (take n (set l j w)))) (fronts l (set l j w) n within (length-set l j w) (sym (drop-set-lt n l j w below)))
+        ∙ ap (λ (b : List Voice). made false h.count true (list_any unfinished_of b) (set l j w)) (take_most (set l j w) h.count 32 (length-set l j w ∙ all))
+        ∙ sym (ap (finished_at_of q h) (finds ∙ s ∙ ap Some (zero-add j)) ∙ ap (λ (b : Bool). cond b (handled_of q (with_voices (set l j w) h.count h)) h) (lt-ltb j 32 (omega (arith, below))))
 
   -- every voice with the note has its speed
   module _ (note : Note) (speed : Float) where
@@ -318,8 +318,8 @@ module _ (h : Channel) (all : length h.voices ≡ 32) where
     sounds room =
         let k = set l h.count new in
         let inside : h.count < length k = omega (arith, room, length-set l h.count new, all) in
-        ap (λ (m : ℕ). any unfinished_of (take m k)) (add-one h.count) ∙ sym (any_next unfinished_of blank_voice h.count k inside)
-        ∙ ap (λ (v : Voice). any unfinished_of (take h.count k) || unfinished_of v) (get_or-set_same l h.count new blank_voice (omega (arith, room, all))) ∙ or-true (any unfinished_of (take h.count k))
+        ap (λ (m : ℕ). list_any unfinished_of (take m k)) (add-one h.count) ∙ sym (any_next unfinished_of blank_voice h.count k inside)
+        ∙ ap (λ (v : Voice). list_any unfinished_of (take h.count k) || unfinished_of v) (get_or-set_same l h.count new blank_voice (omega (arith, room, all))) ∙ or-true (list_any unfinished_of (take h.count k))
       where
         or-true : (a : Bool) → (a || true) ≡ true
         or-true true = refl
@@ -332,10 +332,10 @@ module _ (h : Channel) (all : length h.voices ≡ 32) where
         let over : 32 ≤ h.count = leb-true 32 h.count d in
         let p = stop 32 h.count h.head.now 0 zero32 (asks_voices 32 h.count h.head).note false in
         ap (λ (r : Pass). final_in x h h r (sets l 0 (outs_of (p true false) (take 32 l)))) (last_found 32 h.count h.head.now 0 zero32 (asks_voices 32 h.count h.head).note false false (take 32 l))
-        ∙ ap (λ (k : List Voice). heads (sets l 0 k) h.count (eqb h.head.data_len 0) (any unfinished_of (take 32 l))) (outs_found 32 h.count h.head.now 0 zero32 (asks_voices 32 h.count h.head).note false false (take 32 l))
-        ∙ ap (λ (k : List Voice). heads k h.count (eqb h.head.data_len 0) (any unfinished_of (take 32 l))) (fronts l l 32 (omega (arith, all)) refl refl)
-        ∙ ap (λ (c : Bool). heads l h.count c (any unfinished_of (take 32 l))) e
-        ∙ ap (λ (k : List Voice). heads l h.count false (any unfinished_of k)) (take_all 32 l (le_of_eq all) ∙ sym (take_all h.count l (omega (arith, all, over))))
+        ∙ ap (λ (k : List Voice). heads (sets l 0 k) h.count (eqb h.head.data_len 0) (list_any unfinished_of (take 32 l))) (outs_found 32 h.count h.head.now 0 zero32 (asks_voices 32 h.count h.head).note false false (take 32 l))
+        ∙ ap (λ (k : List Voice). heads k h.count (eqb h.head.data_len 0) (list_any unfinished_of (take 32 l))) (fronts l l 32 (omega (arith, all)) refl refl)
+        ∙ ap (λ (c : Bool). heads l h.count c (list_any unfinished_of (take 32 l))) e
+        ∙ ap (λ (k : List Voice). heads l h.count false (list_any unfinished_of k)) (take_all 32 l (le_of_eq all) ∙ sym (take_all h.count l (omega (arith, all, over))))
         ∙ sym (ap (starts false) (le-ltb h.count 32 over))
     start_comes false false e d =
         let room : h.count < 32 = leb-false 32 h.count d in

@@ -1,5 +1,5 @@
 -- What the steps around the loop of a change on a lent channel work out. Definitions only.
-use Rattle.std.specs.Prelude.{ℕ, ◌+◌, min, Bool, true, false, not, ◌&&◌, ◌||◌, cond, leb, eqb, Float}
+use Rattle.std.specs.Prelude.{ℕ, ◌+◌, min, Bool, true, false, not, ◌&&◌, ◌||◌, cond, Option, Some, None, leb, eqb, Float}
 use Rattle.std.specs.Bool.{beq}
 use Rattle.binary32.specs.Leaves.{zero32, one32}
 use Rattle.common_types.specs.declared.Params.{Params}
@@ -130,26 +130,20 @@ head_ended p (change.Speed note speed) h a = h
 head_ended p (change.Head d) h a = head_changed_of d (found_by d a.several a.entry a.behind) h
 head_ended p change.Reset h a = head_of zero32 h.interpolates
 
--- The same in two steps: what pass-through does, and the head but for it.
-abbrev pub none_passes : Passing
-none_passes = record { begins = false; on = false; samples = 0 }
-
+-- The same in two steps: the ramp of pass-through that begins, if one does, and the head but for it.
 -- a ramp begins if it is asked for, and pass-through is not yet as wanted
-unfoldable pub passing_if : Bool → Head → Params → Bool → Passing
+unfoldable pub passing_if : Bool → Head → Params → Bool → Option Passing
 passing_if asked h q unfinished =
     let on = passes_of q unfinished in
-    record {
-      begins = asked && not (beq on h.passthru_on);
-      on = on;
-      samples = cond on q.attack_samples q.decay_samples;
-    }
+    let passing : Passing = record { on = on; samples = cond on q.attack_samples q.decay_samples } in
+    cond (asked && not (beq on h.passthru_on)) (Some passing) None
 
-unfoldable pub passing_of : Pass → Change → Head → Passing
+unfoldable pub passing_of : Pass → Change → Head → Option Passing
 passing_of p (change.Start q position note velocity) h = passing_if (not (eqb h.data_len 0)) h q p.unfinished
 passing_of p (change.Stop q note) h = passing_if p.found h q p.unfinished
-passing_of p (change.Speed note speed) h = none_passes
-passing_of p (change.Head d) h = none_passes
-passing_of p change.Reset h = none_passes
+passing_of p (change.Speed note speed) h = None
+passing_of p (change.Head d) h = None
+passing_of p change.Reset h = None
 
 unfoldable pub altered_of : Change → Head → Aside → Head
 altered_of (change.Start q position note velocity) h a = h
@@ -158,6 +152,6 @@ altered_of (change.Speed note speed) h a = h
 altered_of (change.Head d) h a = head_changed_of d (found_by d a.several a.entry a.behind) h
 altered_of change.Reset h a = head_of zero32 h.interpolates
 
-unfoldable pub handled_by : Passing → Head → Head
-handled_by q h = cond q.begins
-    (with_passthru q.on (toward_of h.passthru_volume h.now q.samples (cond q.on one32 zero32)) h) h
+unfoldable pub handled_by : Option Passing → Head → Head
+handled_by None h = h
+handled_by (Some q) h = with_passthru q.on (toward_of h.passthru_volume h.now q.samples (cond q.on one32 zero32)) h

@@ -16,7 +16,6 @@ ghost use Rattle.lent_changes.specs.Changes.{
   passed_of,
   started_voice,
   aside_of,
-  none_passes,
   passing_if,
   passing_of,
   altered_of,
@@ -48,6 +47,7 @@ pub struct Pass {
 }
 
 // Voices are asked, and none is changed: a stop that has its voice.
+#[tactic(auto, unfolding(crate::specs::Changes::asks_voices))]
 fn asking(turns: usize, count: usize, head: Head) -> Pass
     ensures { result ≡ asks_voices turns count head }
 {
@@ -67,6 +67,7 @@ fn asking(turns: usize, count: usize, head: Head) -> Pass
 }
 
 // One voice more is stored behind the others.
+#[tactic(auto, unfolding(crate::specs::Changes::stores_behind))]
 fn behind(count: usize, head: Head) -> Pass
     requires { count < 32 }
     ensures { result ≡ stores_behind count head }
@@ -87,6 +88,7 @@ fn behind(count: usize, head: Head) -> Pass
 }
 
 // A start on no recording stores no voice. Where there is no place for one every voice is asked, for the pass-through.
+#[tactic(auto, unfolding(crate::specs::Changes::start_pass))]
 fn start_pass(count: usize, head: Head) -> Pass
     ensures { result ≡ start_pass count head }
 {
@@ -100,6 +102,7 @@ fn start_pass(count: usize, head: Head) -> Pass
 }
 
 // Every voice is gone through, and those with the note are changed.
+#[tactic(auto, unfolding(crate::specs::Changes::going_of))]
 fn going(count: usize, head: Head, note: Note, stop: bool, decay_samples: usize, speed: f32) -> Pass
     ensures { result ≡ going_of count head note stop decay_samples speed }
 {
@@ -117,6 +120,7 @@ fn going(count: usize, head: Head, note: Note, stop: bool, decay_samples: usize,
     }
 }
 
+#[tactic(auto, unfolding(crate::specs::Changes::pass_of))]
 fn pass_of(change: Change, head: Head, count: usize) -> Pass
     ensures { result ≡ pass_of change head count }
 {
@@ -130,12 +134,11 @@ fn pass_of(change: Change, head: Head, count: usize) -> Pass
 }
 
 // Whether the voice is changed: the first with the note that a stop finds unfinished, each with the note otherwise.
+#[tactic(auto, unfolding(crate::specs::Changes::hits_of))]
 fn hits(p: Pass, v: Voice) -> bool
     ensures { result ≡ hits_of p v }
 {
-    let own = v.note;
-    let note = p.note;
-    chosen(channel::same_note(own, note), p.stop, p.found, v.finished)
+    chosen(v.note == p.note, p.stop, p.found, v.finished)
 }
 
 fn chosen(same: bool, stop: bool, found: bool, finished: bool) -> bool
@@ -144,6 +147,7 @@ fn chosen(same: bool, stop: bool, found: bool, finished: bool) -> bool
     same & (!stop | (!found & !finished))
 }
 
+#[tactic(auto, unfolding(crate::specs::Changes::remade_of))]
 fn remade(p: Pass, v: Voice) -> Voice
     ensures { result ≡ remade_of p v }
 {
@@ -167,17 +171,17 @@ fn or_left(before: bool, hit: bool, finished: bool) -> bool
 }
 
 // What is known once the voice has been gone through.
+#[tactic(auto, unfolding(crate::specs::Changes::passed_of))]
 fn passed(p: Pass, v: Voice, hit: bool) -> Pass
     ensures { result ≡ passed_of p v hit }
 {
-    let note = p.note;
     Pass {
         turns: p.turns,
         count: p.count,
         now: p.now,
         decay_samples: p.decay_samples,
         speed: p.speed,
-        note,
+        note: p.note,
         stop: p.stop,
         fresh: p.fresh,
         found: either(p.found, hit),
@@ -186,6 +190,7 @@ fn passed(p: Pass, v: Voice, hit: bool) -> Pass
 }
 
 // The voice that a start stores.
+#[tactic(auto, unfolding(crate::specs::Changes::started_voice))]
 fn opened(change: Change, head: Head) -> Voice
     ensures { result ≡ started_voice change head }
 {
@@ -203,50 +208,44 @@ fn opened(change: Change, head: Head) -> Voice
     }
 }
 
-// What pass-through does at a change: whether a ramp of it begins, to which state, and over how many samples.
+// A ramp of pass-through that begins at a change: to which state, and over how many samples.
 #[derive(Clone, Copy)]
 pub struct Passing {
-    pub begins: bool,
     pub on: bool,
     pub samples: usize,
 }
 
-fn none_passes() -> Passing
-    ensures { result ≡ none_passes }
-{
-    Passing {
-        begins: false,
-        on: false,
-        samples: 0,
-    }
-}
-
 // A ramp begins if it is asked for, and pass-through is not yet as wanted.
-fn passing_if(asked: bool, head: Head, params: Params, unfinished: bool) -> Passing
+#[tactic(auto, unfolding(crate::specs::Changes::passing_if))]
+fn passing_if(asked: bool, head: Head, params: Params, unfinished: bool) -> Option<Passing>
     ensures { result ≡ passing_if asked head params unfinished }
 {
     let on = channel::passes(params, unfinished);
-    Passing {
-        begins: asked & !(on == head.passthru_on),
-        on,
-        samples: channel::ramp_samples(params, on),
+    if asked & !(on == head.passthru_on) {
+        return Some(Passing {
+            on,
+            samples: channel::ramp_samples(params, on),
+        });
     }
+    None
 }
 
 // Pass-through follows a start on a recording, and a stop that found its voice.
-fn passing_of(p: Pass, change: Change, head: Head) -> Passing
+#[tactic(auto, unfolding(crate::specs::Changes::passing_of))]
+fn passing_of(p: Pass, change: Change, head: Head) -> Option<Passing>
     ensures { result ≡ passing_of p change head }
 {
     match change {
         Change::Start { params, .. } => passing_if(head.data_len != 0, head, params, p.unfinished),
         Change::Stop { params, .. } => passing_if(p.found, head, params, p.unfinished),
-        Change::Speed { .. } => none_passes(),
-        Change::Head(_) => none_passes(),
-        Change::Reset => none_passes(),
+        Change::Speed { .. } => None,
+        Change::Head(_) => None,
+        Change::Reset => None,
     }
 }
 
 // The head at the end, but for pass-through.
+#[tactic(auto, unfolding(crate::specs::Changes::altered_of))]
 fn altered(change: Change, head: Head, aside: Aside) -> Head
     ensures { result ≡ altered_of change head aside }
 {
@@ -262,13 +261,14 @@ fn altered(change: Change, head: Head, aside: Aside) -> Head
     }
 }
 
-fn handled(q: Passing, head: Head) -> Head
-    ensures { result ≡ handled_by q head }
+#[tactic(auto, unfolding(crate::specs::Changes::handled_by))]
+fn handled(passing: Option<Passing>, head: Head) -> Head
+    ensures { result ≡ handled_by passing head }
 {
-    if q.begins {
-        return head.ramped(q.on, q.samples);
+    match passing {
+        Some(q) => head.ramped(q.on, q.samples),
+        None => head,
     }
-    head
 }
 
 // The head at the end.
@@ -311,8 +311,7 @@ pub fn change(c: &mut Channel, change: Change)
 {
     let mut p = pass_of(change, c.head, c.count);
     let n = p.turns;
-    let mut i: usize = 0;
-    while i < n {
+    for i in 0..n {
         let v = c.voices[i];
         let hit = hits(p, v);
         if hit {
@@ -320,7 +319,6 @@ pub fn change(c: &mut Channel, change: Change)
             c.voices[i] = w;
         }
         p = passed(p, v, hit);
-        i = i + 1;
     }
     if p.fresh {
         let at = c.count;
@@ -358,6 +356,7 @@ fn all_of(table: [Phrase; 8], several: bool, head: Head) -> [Phrase; 8]
 }
 
 // Table and head, the phrases being where they stand in `all`.
+#[tactic(auto, unfolding(crate::specs::Laying::laid_of))]
 fn laid_of(table: [Phrase; 8], several: bool, head: Head, all: [Phrase; 8]) -> Laid
     ensures { result ≡ laid_of table several head all }
 {
@@ -405,6 +404,7 @@ pub fn gather(c: &mut Channel, memory: &mut [u32], start: usize, end: usize)
         ++ drop (end - start) (drop start memory.old))) }
 {
     let l = gathered(c.table, c.several, c.head, memory, start, end);
+    // By a variable: an array stored from a field straight is not covered.
     let table = l.table;
     c.table = table;
     c.head = l.head;

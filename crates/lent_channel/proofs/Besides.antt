@@ -8,7 +8,7 @@ use mathlib.Core.List.{List, [], ◌∷◌}
 use lib.ListN.{length, get_or, take, set, length-set}
 use lib.Seq.{take_all}
 use borrow.Author.Tests.{eq-eqb, ne_eqb}
-use Rattle.walks.specs.Walks.{fold}
+use Rattle.std.specs.List.{fold}
 use Rattle.walks.proofs.Tests.{one_more, joined, and-true, and_assoc}
 use Rattle.phrases.specs.declared.Phrase.{Phrase}
 use Rattle.phrases.specs.declared.Beside.{Beside}
@@ -33,7 +33,6 @@ few true k lt = lt
 few false k lt = absurd (not-suc-le-zero lt)
 
 fold_next : {A S : Type 0} (f : S → A → S) (d : A) (s : S) (i : ℕ) (l : List A) → i < length l → f (fold f s (take i l)) (get_or l i d) ≡ fold f s (take (suc i) l)
-unfolding fold
 fold_next f d s i [] lt = absurd (not-suc-le-zero lt)
 fold_next f d s zero (x ∷ xs) lt = refl
 fold_next f d s (suc i) (x ∷ xs) lt = fold_next f d (f s x) i xs (le_of_suc-le-suc lt)
@@ -103,7 +102,6 @@ module _ (h : Head) (table : List Phrase) where
     beside_upto k = fold (beside_with h.start) (beside_of_nothing capacity) (take k (set table h.chosen no_phrase))
 
     pub beside_nothing : beside_of_nothing capacity ≡ beside_upto 0
-    unfolding fold
     beside_nothing = refl
 
     pub beside_one_more : (k : ℕ) → k < length table → beside_next (beside_upto k) h k (get_or table k no_phrase) ≡ beside_upto (k + 1)
@@ -115,7 +113,7 @@ module _ (h : Head) (table : List Phrase) where
         ∙ ap beside_upto (sym (one_more k))
 
     beside_all : (several : Bool) → (several ≡ true → length table ≡ 8) → beside_upto (entries several) ≡ beside_of h.start capacity (others_of several h.chosen table)
-    unfolding beside_of others_of fold
+    unfolding beside_of others_of
     beside_all true all = ap (fold (beside_with h.start) (beside_of_nothing capacity)) (take_all 8 (set table h.chosen no_phrase) (le_of_eq (length-set table h.chosen no_phrase ∙ all refl)))
     beside_all false all = sym (beside_alone h.start capacity h.chosen table)
 

@@ -10,7 +10,8 @@ use lib.ListN.{length, get_or, set, take, drop}
 use lib.Seq.{slice, slice_empty}
 use lib.Ieee.{Float, binary32, add}
 use borrow.Author.Tests.{eq-eqb, ne_eqb, lt-ltb, le-ltb, ltb-true, ltb-false}
-use Rattle.walks.specs.Walks.{any, without, behind, fold}
+use Rattle.std.specs.List.{list_any, fold}
+use Rattle.walks.specs.Walks.{without, behind}
 use Rattle.walks.proofs.Lists.Loops.{Walk, turns, stores, get_d_any}
 use Rattle.common_types.specs.declared.Params.{Params}
 use Rattle.binary32.specs.Leaves.{zero32}
@@ -375,7 +376,7 @@ module _ (s : Turning) (c : Channel) (none : c.count ≡ 0) where
   of_count n = with_voices c.voices n c
 
   played_none : played_of s c ≡ with_none c
-  unfolding played_of kept_of tidied_of heard_sum without behind fold
+  unfolding played_of kept_of tidied_of heard_sum without behind
   played_none = subst (λ (n : ℕ). played_of s (of_count n) ≡ with_none (of_count n)) (sym none) refl
 
   pub none_heard : silent ≡ heard_of (played_of s c)
@@ -386,5 +387,5 @@ module _ (s : Turning) (c : Channel) (none : c.count ≡ 0) where
   none_gone = sym (ap (λ (r : Played). r.channel) played_none)
 
   pub none_unfinished : false ≡ any_unfinished_of (played_of s c).channel
-  unfolding any_unfinished_of any
+  unfolding any_unfinished_of
   none_unfinished = subst (λ (n : ℕ). false ≡ any_unfinished_of (of_count n)) (sym none) refl ∙ ap any_unfinished_of none_gone

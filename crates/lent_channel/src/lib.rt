@@ -2,7 +2,8 @@
 // copied. Each function equals the same definition as that of crate `channel` by value.
 #![tactic(auto)]
 
-ghost use Rattle.std.specs.Prelude.{◌≡◌, ◌≤◌, ◌<◌, ◌&&◌, cond, get_or, length};
+ghost use Rattle.std.specs.Prelude.{◌≡◌, ◌≤◌, ◌<◌, ◌&&◌, true, cond, get_or, length};
+ghost use Rattle.std.specs.List.{fold};
 ghost use Rattle.std.specs.Float.{binary32};
 ghost use Rattle.std.specs.Float.Ieee.{add};
 ghost use Rattle.common_types.specs.Settings.{measure_of};
@@ -12,6 +13,7 @@ ghost use Rattle.channel.specs.Heads.{closed_of};
 ghost use Rattle.channel.specs.Tables.{with_recording, good_table, against_by};
 ghost use Rattle.channel.specs.Channels.{
   any_unfinished_of,
+  live,
   with_head,
   played_of,
   turning_in,
@@ -21,7 +23,6 @@ ghost use Rattle.channel.specs.Channels.{
   beside_in,
   uses_of,
   against_of,
-  good_voices_of,
   good_channel,
 };
 ghost use Rattle.lent_channel.specs.Turns.{
@@ -69,51 +70,28 @@ pub fn silence() -> Heard
 }
 
 // What the voices don't say of whether a channel may stand in a record of that capacity.
+#[tactic(auto, unfolding(crate::specs::Turns::head_good_of))]
 fn head_good(head: Head, count: usize, capacity: usize) -> bool
     ensures { result ≡ head_good_of capacity head count }
 {
-    if 32 < count {
-        return false;
-    }
-    head.good(capacity)
-}
-
-// Whether all voices so far are good, with one more.
-fn still_good(ok: bool, v: Voice, time: usize) -> bool
-    ensures { result ≡ (ok && good_voice time v) }
-{
-    ok & v.good(time)
+    (count <= 32) && head.good(capacity)
 }
 
 // Whether each voice is good. It goes on behind one that isn't: that is rare, and a way out of the loop would put a
 // branch at each of a voice's tests.
 fn good_voices(c: &Channel) -> bool
-    ensures { result ≡ good_voices_of c.now }
+    ensures { result ≡ fold (λ ok v. ok && good_voice c.now.head.now v) true (live c.now) }
 {
     let time = c.head.now;
-    let n = channel::places(c.count);
-    let mut ok = true;
-    let mut i: usize = 0;
-    while i < n {
-        ok = still_good(ok, c.voices[i], time);
-        i = i + 1;
-    }
-    ok
+    c.live().iter().fold(true, |ok, v| ok & v.good(time))
 }
 
 // Whether a voice is unfinished: mostly the first is.
+#[tactic(auto, unfolding(channel::specs::Channels::any_unfinished_of))]
 pub fn any_unfinished(c: &Channel) -> bool
     ensures { result ≡ any_unfinished_of c.now }
 {
-    let n = channel::places(c.count);
-    let mut i: usize = 0;
-    while i < n {
-        if !c.voices[i].finished {
-            return true;
-        }
-        i = i + 1;
-    }
-    false
+    c.live().iter().any(|v| !v.finished)
 }
 
 // The phrase of a number, by its entry of the table: the chosen one is the recording.
@@ -148,10 +126,8 @@ fn phrase_good(c: &Channel, k: usize, capacity: usize) -> bool
 {
     let p = looked_at(c.table[k], k, c.head);
     let mut ok = p.ends_by(capacity);
-    let mut j: usize = 0;
-    while j < k {
+    for j in 0..k {
         ok = still_apart(ok, p, looked_at(c.table[j], j, c.head));
-        j = j + 1;
     }
     ok
 }
@@ -171,14 +147,12 @@ fn in_order(c: &Channel, capacity: usize) -> bool
 {
     let n = entries(c.several);
     let mut upto: usize = 0;
-    let mut k: usize = 0;
-    while k < n {
+    for k in 0..n {
         let p = numbered(c, k);
         if !p.clear(upto, capacity) {
             return false;
         }
         upto = p.reach_from(upto);
-        k = k + 1;
     }
     true
 }
@@ -189,12 +163,10 @@ fn good_pairs(c: &Channel, capacity: usize) -> bool
         ≡ good_table capacity c.now.head c.now.several c.now.table }
 {
     let n = entries(c.several);
-    let mut k: usize = 0;
-    while k < n {
+    for k in 0..n {
         if !phrase_good(c, k, capacity) {
             return false;
         }
-        k = k + 1;
     }
     true
 }
@@ -204,10 +176,7 @@ fn good_phrases(c: &Channel, capacity: usize) -> bool
     ensures { result
         ≡ good_table capacity c.now.head c.now.several c.now.table }
 {
-    if in_order(c, capacity) {
-        return true;
-    }
-    good_pairs(c, capacity)
+    in_order(c, capacity) || good_pairs(c, capacity)
 }
 
 // Whether the channel may stand in a record of that capacity.
@@ -223,18 +192,11 @@ pub fn good(c: &Channel, capacity: usize) -> bool
 }
 
 // Whether a voice has the phrase of that number.
+#[tactic(auto, unfolding(channel::specs::Channels::uses_of))]
 fn uses(c: &Channel, k: u8) -> bool
     ensures { result ≡ uses_of k c.now }
 {
-    let n = channel::places(c.count);
-    let mut i: usize = 0;
-    while i < n {
-        if c.voices[i].phrase == k {
-            return true;
-        }
-        i = i + 1;
-    }
-    false
+    c.live().iter().any(|v| v.phrase == k)
 }
 
 // What the phrases looked at so far say to a head's own, with one more.
@@ -253,10 +215,8 @@ pub fn beside(c: &Channel, capacity: usize) -> Beside
 {
     let n = entries(c.several);
     let mut b = Beside::none(capacity);
-    let mut k: usize = 0;
-    while k < n {
+    for k in 0..n {
         b = beside_next(b, c.head, k, c.table[k]);
-        k = k + 1;
     }
     b
 }
@@ -271,15 +231,14 @@ pub struct Asking {
 fn answered(a: Asking, head: Head, count: usize, used: bool, b: Beside) -> Against
     ensures { result ≡ against_by a.ask head count used b a.capacity }
 {
-    let ask = a.ask;
-    channel::held_against(ask, head, count, used, b, a.capacity)
+    channel::held_against(a.ask, head, count, used, b, a.capacity)
 }
 
 // What the channel has against it.
 pub fn against(c: &Channel, a: Asking) -> Against
     ensures { result ≡ against_of a.capacity a.ask c.now }
 {
-    let used = uses(c, channel::leaving(a.ask));
+    let used = channel::leaving(a.ask).is_some_and(|k| uses(c, k));
     let b = beside(c, a.capacity);
     answered(a, c.head, c.count, used, b)
 }
@@ -291,7 +250,8 @@ pub fn added(output: f32, w: Voice) -> f32
 }
 
 // Where the voices' turns stand: the place of the next, how many have stayed, what was heard of them, the place of the
-// first that left, if one did, and whether each of them glided.
+// first that left, if one did, and whether each of them glided. `first` is no Option: `kept < place` says whether one left,
+// and an Option would say so a second time.
 #[derive(Clone, Copy)]
 pub struct Going {
     pub place: usize,
@@ -342,8 +302,7 @@ fn glide(c: &mut Channel, t: Tick, g: Going, n: usize, data: &[u32]) -> Going
     ensures { Glides t «data».now n c.old g c.new result }
 {
     let mut output = g.output;
-    let mut i = g.place;
-    while i < n {
+    for i in g.place..n {
         let v = c.voices[i];
         let q = v.quick(t, data);
         if !q.glides {
@@ -352,9 +311,8 @@ fn glide(c: &mut Channel, t: Tick, g: Going, n: usize, data: &[u32]) -> Going
         let w = q.voice;
         c.voices[i] = w;
         output = added(output, w);
-        i = i + 1;
     }
-    glided(i, output)
+    glided(n, output)
 }
 
 // The turn of the voice at the next place.
@@ -479,6 +437,7 @@ fn play(c: &mut Channel, params: Params, data: &[u32]) -> Heard
     let n = channel::places(c.count);
     let m = params.measure();
     let mut g = beginning();
+    // No `for`: `go_on` passes as many places as glide.
     while g.place < n {
         g = go_on(c, g, n, params, m, data);
     }

@@ -4,8 +4,10 @@ use Rattle.walks.proofs.Lists.Loops.{get_d_any}
 use Rattle.channel.specs.declared.Channel.{Channel}
 use Rattle.channel.specs.Channels.{channel_of, gathered_in, gathered_memory}
 use Rattle.sampler.specs.declared.Sampler.{Sampler}
-use Rattle.sampler.specs.declared.Answer.{Answer}
-use Rattle.sampler.specs.Refusals.{channel_at, gather_number}
+use Rattle.std.specs.Prelude.{Result, Ok, Err, is_ok}
+use Rattle.refusals.specs.declared.Refusal.{Refusal}
+use Rattle.refusals.specs.Refusals.{code_of}
+use Rattle.sampler.specs.Refusals.{channel_at, gather_judged}
 use Rattle.sampler.specs.Samplers.{with_channels, Gathered, gathered_all, gather_of, gather_memory}
 use Rattle.sampler.proofs.Rows.{gather_steps, fitting, gather_says}
 use Rattle.sampler.proofs.Seats.{none}
@@ -20,54 +22,43 @@ part_long a n k l inside same =
     omega (arith, whole, part, same, inside)
 
 module _ (s : Sampler) (m : List ℕ) where
-  abbrev number : ℕ
-  number = gather_number s (length m)
-
-  abbrev pub turns : ℕ
-  turns = cond (eqb number 0) (min s.count 2) 0
-
-  -- what the code counts is that
-  pub turns_so : (n r k : ℕ) → r ≡ number → n ≡ cond (eqb r 0) k 0 → k ≡ min s.count 2 → n ≡ turns
-  turns_so n r k is steps most = steps ∙ ap (λ (q : ℕ). cond (eqb q 0) k 0) is ∙ ap (λ (q : ℕ). cond (eqb number 0) q 0) most
-
-  -- what stands after j turns
+  -- what stands after j turns of a gather that isn't refused
   pub record Turned (j : ℕ) (t : Sampler) (k : List ℕ) : Type 0 where
-    pub upto : j ≤ turns
+    pub accepted : gather_judged s (length m) ≡ Ok tt
+    pub upto : j ≤ s.count
     pub size : length k ≡ length m
     pub seats : length t.channels ≡ length s.channels
     pub long : 0 < j → length s.channels ≡ 2
-    pub going : number ≡ 0 → length s.channels ≡ 2 → loop.Gathering (gathered_all s m) s.capacity s.count (length m) t k j
-    pub kept : j ≡ 0 → (t ≡ s) × (k ≡ m)
+    pub going : length s.channels ≡ 2 → loop.Gathering (gathered_all s m) s.capacity s.count (length m) t k j
 
-  pub turned_starts : Turned 0 s m
-  turned_starts = record {
+  pub turned_starts : gather_judged s (length m) ≡ Ok tt → Turned 0 s m
+  turned_starts e = record {
+    accepted = e;
     upto = omega arith;
     size = refl;
     seats = refl;
     long = λ h. absurd (omega (arith, h));
-    going = λ e two. gathering_starts s m two (gather_steps s (length m) e);
-    kept = λ _. (refl, refl);
+    going = λ two. gathering_starts s m two (gather_steps s (length m) (ap code_of e));
   }
 
-  -- a turn is taken by a gather that isn't refused
-  accepted : (j : ℕ) → j < turns → (number ≡ 0) × (j < s.count)
-  accepted j h = go (eqb number 0) refl h
-    where
-      go : (b : Bool) → eqb number 0 ≡ b → j < cond b (min s.count 2) 0 → (number ≡ 0) × (j < s.count)
-      go true e l = (eqb-true number 0 e, omega (arith, l))
-      go false e l = absurd (omega (arith, l))
+  -- a refused gather
+  pub refused : (f : Refusal) → gather_judged s (length m) ≡ Err f → (record { sampler = s; done = Err f } ≡ gather_of s m) × (m ≡ gather_memory s m)
+  unfolding gather_of gather_memory
+  refused f e = (
+    sym (ap (λ (d : Result (Unit {0}) Refusal). record { sampler = cond (is_ok d) (gathered_all s m).sampler s; done = d }) e),
+    sym (ap (λ (d : Result (Unit {0}) Refusal). cond (is_ok d) (gathered_all s m).memory m) e),
+  )
 
-  module _ {j : ℕ} {t : Sampler} {k : List ℕ} (z : Turned j t k) (h : j < turns) where
-    pub turned_low : (j < 2) × (j * s.capacity + s.capacity ≤ length k)
-    turned_low =
-        let w = accepted j h in
-        let g = gather_steps s (length m) w.0 in (
-          omega (arith, w.1, g.below),
-          le_trans (le_of_eq (sym (suc-mul j s.capacity))) (le_trans (mul-le-mul_right s.capacity w.1) (le_trans g.parts (le_of_eq (sym z.size)))),
+  module _ {j : ℕ} {t : Sampler} {k : List ℕ} (z : Turned j t k) where
+    pub turned_low : j < s.count → (j < 2) × (j * s.capacity + s.capacity ≤ length k)
+    turned_low h =
+        let g = gather_steps s (length m) (ap code_of z.accepted) in (
+          omega (arith, h, g.below),
+          le_trans (le_of_eq (sym (suc-mul j s.capacity))) (le_trans (mul-le-mul_right s.capacity h) (le_trans g.parts (le_of_eq (sym z.size)))),
         )
 
     -- a channel more
-    module _ (two : length t.channels ≡ 2) (a : ℕ) (begins : a ≡ j * s.capacity) (d : Channel) (l : List ℕ) where
+    module _ (h : j < s.count) (two : length t.channels ≡ 2) (a : ℕ) (begins : a ≡ j * s.capacity) (d : Channel) (l : List ℕ) where
       abbrev c : Channel
       c = get_or t.channels j none
 
@@ -79,40 +70,25 @@ module _ (s : Sampler) (m : List ℕ) where
 
       pub turned_on : d ≡ gathered_in c part → l ≡ take a k ++ (gathered_memory c part ++ drop e (drop a k)) → length l ≡ length k → Turned (j + 1) (with_channels (set t.channels j d) t) l
       turned_on is_d is_l same =
-          let c_is : c ≡ channel_at t j = get_d_any t.channels j none (channel_of (record { auto_passthru = false })) (omega (arith, two, turned_low.0)) in
+          let c_is : c ≡ channel_at t j = get_d_any t.channels j none (channel_of (record { auto_passthru = false })) (omega (arith, two, (turned_low h).0)) in
           let whole : length (take a k ++ (gathered_memory c part ++ drop e (drop a k))) ≡ length k = ap length (sym is_l) ∙ same in
           record {
+            accepted = z.accepted;
             upto = omega (arith, h);
             size = same ∙ z.size;
             seats = length-set t.channels j d ∙ z.seats;
             long = λ _. sym z.seats ∙ two;
-            going = λ n all. subst (λ (q : List ℕ). loop.Gathering (gathered_all s m) s.capacity s.count (length m) (with_channels (set t.channels j d) t) q (j + 1)) (sym is_l)
-                (gathering_on (z.going n all) (accepted j h).1 a begins d (gathered_memory c part) c c_is is_d refl (part_long a e k (gathered_memory c part) (omega (arith, begins, turned_low.1)) whole));
-            kept = λ q. absurd (omega (arith, q));
+            going = λ all. subst (λ (q : List ℕ). loop.Gathering (gathered_all s m) s.capacity s.count (length m) (with_channels (set t.channels j d) t) q (j + 1)) (sym is_l)
+                (gathering_on (z.going all) h a begins d (gathered_memory c part) c c_is is_d refl (part_long a e k (gathered_memory c part) (omega (arith, begins, (turned_low h).1)) whole));
           }
 
-  abbrev answer : Bool → Answer
-  answer b = record { sampler = cond b (gathered_all s m).sampler s; number = number }
-
-  abbrev memory : Bool → List ℕ
-  memory b = cond b (gathered_all s m).memory m
-
-  -- a record whose channels are gathered has one
-  some : number ≡ 0 → 0 < min s.count 2
-  some e = let f = fitting s (length m) (gather_says s (length m) e).0 in omega (arith, f.some)
-
-  pub turned_ends : (j r : ℕ) (t : Sampler) (k : List ℕ) → r ≡ number → Turned j t k → turns ≤ j → (record { sampler = t; number = r } ≡ gather_of s m) × (k ≡ gather_memory s m)
-  unfolding gather_of gather_memory
-  turned_ends j r t k is z end = go (eqb number 0) refl
-    where
-      go : (b : Bool) → eqb number 0 ≡ b → ◌≡◌ {A = Answer} (record { sampler = t; number = r }) (answer (eqb number 0)) × (k ≡ memory (eqb number 0))
-      go true e =
-          let n : number ≡ 0 = eqb-true number 0 e in
-          let most : turns ≡ min s.count 2 = ap (λ (b : Bool). cond b (min s.count 2) 0) e in
-          let w = z.going n (z.long (omega (arith, some n, most, end))) in
-          let all : loop.gathered t k ≡ gathered_all s m = gathering_ends w (omega (arith, most, end, w.below)) in
-          ((λ q. record { sampler = (all q).sampler; number = is q }) ∙ ap answer (sym e), ap (λ (g : Gathered). g.memory) all ∙ ap memory (sym e))
-      go false e =
-          let none_left : turns ≡ 0 = ap (λ (b : Bool). cond b (min s.count 2) 0) e in
-          let w = z.kept (omega (arith, z.upto, none_left)) in
-          ((λ q. record { sampler = w.0 q; number = is q }) ∙ ap answer (sym e), w.1 ∙ ap memory (sym e))
+    -- a record whose channels are gathered has one
+    pub turned_ends : s.count ≤ j → (record { sampler = t; done = Ok tt } ≡ gather_of s m) × (k ≡ gather_memory s m)
+    unfolding gather_of gather_memory
+    turned_ends end =
+        let some : 1 ≤ s.count = (fitting s (length m) (gather_says s (length m) (ap code_of z.accepted)).0).some in
+        let all : loop.gathered t k ≡ gathered_all s m = gathering_ends (z.going (z.long (omega (arith, some, end)))) end in (
+          (λ q. record { sampler = (all q).sampler; done = Ok tt })
+              ∙ sym (ap (λ (d : Result (Unit {0}) Refusal). record { sampler = cond (is_ok d) (gathered_all s m).sampler s; done = d }) z.accepted),
+          ap (λ (g : Gathered). g.memory) all ∙ sym (ap (λ (d : Result (Unit {0}) Refusal). cond (is_ok d) (gathered_all s m).memory m) z.accepted),
+        )

@@ -1,9 +1,8 @@
-pub mod Numbers
+pub mod Changes
 pub mod Lists
+pub mod Surveys
+pub mod Gathers
 pub mod Turned
 pub mod RunTurns
 pub mod RunTurned
 pub mod Singles
-pub mod Changes
-pub mod Gathers
-pub mod Surveys

@@ -1,34 +1,77 @@
--- The lists of a lent record: which channel and voice is read, how many voices are listed, what a turn adds to the list, and that all of it is what the question answers. Assumes nothing.
-use Rattle.std.proofs.Common.{◌≡◌, ℕ, zero, suc, ◌+◌, ◌%◌, ◌^◌, ◌<◌, ◌≤◌, min, Bool, true, false, cond, not, ◌||◌, eqb, ltb, List, [], ◌∷◌, ◌++◌, map, length, get_or, take, drop, set, sym, refl, ap, ◌∙◌, ap₂, true≢false, mod-eq_of_lt, arith, length-append, length-drop, length-take, get_or-take, ltb-false, ltb-true}
+-- The lists of a lent record: its rows, which channel is read, what a voice more adds to the list, and that all of it is what the question answers. Assumes nothing.
+use Rattle.std.proofs.Common.{◌≡◌, ℕ, zero, suc, ◌+◌, ◌<◌, ◌≤◌, min, Bool, true, false, cond, not, eqb, ltb, List, [], ◌∷◌, ◌++◌, map, length, get_or, take, drop, set, sym, refl, ap, ◌∙◌, true≢false, arith, length-append, length-drop, length-take, get_or-take, ltb-false, ltb-true, ne_eqb}
+use Rattle.std.specs.Prelude.{Result, Ok, Err, is_ok, fold, count_by}
 use lib.ListN.{length-map, get_or-map}
 use lib.Seq.{take-length, take-append_seam}
-use Rattle.binary32.specs.Leaves.{as_float}
+use Rattle.refusals.specs.declared.Refusal.{Refusal}
+use Rattle.refusals.specs.declared.Refusal.TheVariants.{NoChannel, BeyondLimits, ShortList, Broken}
+use Rattle.refusals.specs.Refusals.{code_of, row}
+use Rattle.refusals.proofs.Codes.{passed}
 use Rattle.walks.specs.Walks.{without}
 use Rattle.walks.proofs.Tests.{one_more}
-use Rattle.walks.proofs.Lists.Each.{fewer}
-use Rattle.walks.proofs.Lists.Loops.{get_d_any}
 use Rattle.walks.proofs.Lists.Stored.{fronted, fronted_next}
 use Rattle.common_types.specs.Notes.{into_u64_of}
 use Rattle.common_types.specs.declared.Params.{Params}
-use Rattle.common_types.specs.Settings.{beyond_limits, loop_length_of}
+use Rattle.common_types.specs.Settings.{beyond_limits}
 use Rattle.voice.specs.declared.Voice.{Voice}
-use Rattle.voice.specs.Voices.{blank_voice}
 use Rattle.channel.specs.declared.Channel.{Channel}
-use Rattle.channel.specs.Channels.{channel_of, live}
+use Rattle.channel.specs.Channels.{live}
 use Rattle.sampler.specs.declared.Sampler.{Sampler}
-use Rattle.sampler.specs.Refusals.{channel_at, row, good_sampler}
+use Rattle.sampler.specs.Refusals.{channel_at, good_sampler, question_rows}
 use Rattle.sampler.proofs.Rows.{good_sizes_lem, sizes_count}
-use Rattle.sampler.proofs.Seats.{none}
 use Rattle.sampler.proofs.Channels.{few_voices}
-use Rattle.questions.specs.Questions.{answered, in_front, notes_of, list_number_by, list_counted_by, list_after_by, list_number, list_counted, list_after, iter_active_notes_of, active_notes_after, no_infos, infos_with, voice_info_of, figures_of, voice_infos_of, info_number, get_voice_info_of}
+use Rattle.questions.specs.Questions.{in_front, notes_of, list_counted, list_after, iter_active_notes_of, active_notes_after, no_infos, figures_of, voice_infos_of, get_voice_info_of}
 use Rattle.questions.specs.Lists.{infos_counted, listed_of, voice_info_counted, voice_info_after}
 use Rattle.questions.specs.declared.VoiceInfo.{VoiceInfo}
 use Rattle.questions.specs.declared.VoiceInfos.{VoiceInfos}
-use Rattle.questions.specs.declared.Counted.{Counted}
-use Rattle.questions.specs.declared.Counted.TheVariants as counted
-use Rattle.lent_sampler.specs.Lists.{seat_of, seated, voice_place, voice_in, unlisted, listed_count, count_in, list_rows, phrase_length, info_in}
+use Rattle.lent_sampler.specs.Lists.{seat_of, seated, unfinished}
 
--- ---- which channel and voice is read
+-- ---- a call that isn't refused
+abbrev pub ok : Result (Unit {0}) Refusal
+ok = Ok tt
+
+-- ---- a row that is passed, and one that refuses
+module _ {A : Type 0} (test : Bool) (g : Refusal) (rest : Result A Refusal) where
+  pub row_passes : ok ≡ row test g ok → row test g rest ≡ rest
+  row_passes h = ap (λ (b : Bool). row b g rest) (passed test g ok (sym (ap code_of h))).0
+
+  pub row_refuses : (f : Refusal) → Err f ≡ row test g ok → row test g rest ≡ Err f
+  row_refuses f h = go test h
+    where
+      refusal_in : Result (Unit {0}) Refusal → Result A Refusal
+      refusal_in (Ok d) = rest
+      refusal_in (Err e) = Err e
+
+      go : (b : Bool) → Err f ≡ row b g ok → row b g rest ≡ Err f
+      go true h = sym (ap refusal_in h)
+      go false h = absurd (true≢false (sym (ap is_ok h)))
+
+-- what a test that was passed says
+pub row_fails : (test : Bool) (g : Refusal) → ok ≡ row test g ok → test ≡ false
+row_fails test g h = (passed test g ok (sym (ap code_of h))).0
+
+-- ---- the rows before a list's own
+module _ {A : Type 0} where
+  refuses : (good there : Bool) (rest : Result A Refusal) (f : Refusal) → Err f ≡ row (not good) Broken (row (not there) NoChannel ok)
+      → row (not good) Broken (row (not there) NoChannel rest) ≡ Err f
+  refuses false there rest f h = sym (ap refusal_in h)
+    where
+      refusal_in : Result (Unit {0}) Refusal → Result A Refusal
+      refusal_in (Ok d) = rest
+      refusal_in (Err e) = Err e
+  refuses true there rest f h = row_refuses (not there) NoChannel rest f h
+
+goes : (good there : Bool) → ok ≡ row (not good) Broken (row (not there) NoChannel ok) → (good ≡ true) × (there ≡ true)
+goes false there h = absurd (true≢false (ap is_ok h))
+goes true false h = absurd (true≢false (ap is_ok h))
+goes true true h = (refl, refl)
+
+pub seat_is : (j : ℕ) → j < 2 → seat_of j ≡ j
+unfolding seat_of
+seat_is zero h = refl
+seat_is (suc zero) h = refl
+seat_is (suc (suc j)) h = absurd (omega arith)
+
 pub seat_two : (j : ℕ) → seat_of j < 2
 unfolding seat_of
 seat_two j = go (eqb j 1)
@@ -37,56 +80,37 @@ seat_two j = go (eqb j 1)
     go true = omega arith
     go false = omega arith
 
-pub seat_is : (j : ℕ) → j < 2 → seat_of j ≡ j
+pub seat_one : (j : ℕ) → j ≡ 1 → 1 ≡ seat_of j
 unfolding seat_of
-seat_is zero h = refl
-seat_is (suc zero) h = refl
-seat_is (suc (suc j)) h = absurd (omega arith)
+seat_one j e = ap (λ (n : ℕ). cond (eqb n 1) 1 0) (sym e)
 
--- the channel that is read is the asked one
-pub seated_there : (s : Sampler) (j k : ℕ) → length s.channels ≡ 2 → k ≡ seat_of j → get_or s.channels k none ≡ seated s j
-seated_there s j k two e =
-    ap (λ (n : ℕ). get_or s.channels n none) e
-    ∙ get_d_any s.channels (seat_of j) none (channel_of (record { auto_passthru = false })) (omega (arith, two, seat_two j))
+pub seat_other : (j : ℕ) → (j ≡ 1 → ⊥) → 0 ≡ seat_of j
+unfolding seat_of
+seat_other j h = sym (ap (λ (b : Bool). cond b 1 0) (ne_eqb j 1 h))
 
-module _ (i : ℕ) where
-  pub spot_within : voice_place i < 32
-  unfolding voice_place
-  spot_within = go (ltb i 32) refl
-    where
-      go : (b : Bool) → ltb i 32 ≡ b → cond b i 0 < 32
-      go true e = ltb-true i 32 e
-      go false e = omega arith
+module _ (s : Sampler) (j : ℕ) where
+  pub rows_refuse : {A : Type 0} (rest : Result A Refusal) (f : Refusal) → Err f ≡ question_rows s j ok → question_rows s j rest ≡ Err f
+  rows_refuse rest f h = refuses (good_sampler s) (ltb j s.count) rest f h
 
-  pub spot_is : i < 32 → voice_place i ≡ i
-  unfolding voice_place
-  spot_is h = go (ltb i 32) refl
-    where
-      go : (b : Bool) → ltb i 32 ≡ b → cond b i 0 ≡ i
-      go true e = refl
-      go false e = let k : 32 ≤ i = ltb-false i 32 e in absurd (omega (arith, h, k))
+  module _ (h : ok ≡ question_rows s j ok) where
+    is_good : good_sampler s ≡ true
+    is_good = (goes (good_sampler s) (ltb j s.count) h).0
 
-  pub voice_there : (c : Channel) → i < 32 → voice_in i c ≡ get_or c.voices i blank_voice
-  voice_there c h = ap (λ (k : ℕ). get_or c.voices k blank_voice) (spot_is h)
+    is_there : j < s.count
+    is_there = ltb-true j s.count (goes (good_sampler s) (ltb j s.count) h).1
 
--- ---- the test of a voice
-pub finished_so : (b : Bool) → not b ≡ false → b ≡ true
-finished_so true h = refl
-finished_so false h = absurd (true≢false h)
+    pub rows_pass : {A : Type 0} (rest : Result A Refusal) → question_rows s j rest ≡ rest
+    rows_pass rest = let g = goes (good_sampler s) (ltb j s.count) h in λ i. row (not (g.0 i)) Broken (row (not (g.1 i)) NoChannel rest)
 
-pub unfinished_so : (b : Bool) → not b ≡ true → b ≡ false
-unfinished_so true h = absurd (true≢false (sym h))
-unfinished_so false h = refl
+    -- the channel that is read is the asked one
+    pub seated_is : seated s j ≡ channel_at s j
+    seated_is = ap (channel_at s) (seat_is j (omega (arith, is_there, sizes_count _ _ (good_sizes_lem s is_good))))
 
-pub is_listed : (all f : Bool) → (all || not f) ≡ true → cond all false f ≡ false
-is_listed true f h = refl
-is_listed false true h = absurd (true≢false (sym h))
-is_listed false false h = refl
-
-pub is_unlisted : (all f : Bool) → (all || not f) ≡ false → cond all false f ≡ true
-is_unlisted true f h = absurd (true≢false h)
-is_unlisted false true h = refl
-is_unlisted false false h = absurd (true≢false h)
+    -- as many voices as it says are in use
+    pub all_live : length (seated s j).voices ≡ 32 → length (live (seated s j)) ≡ (seated s j).count
+    all_live all =
+        let same : (seated s j).count ≡ (channel_at s j).count = ap (λ (c : Channel). c.count) seated_is in
+        omega (arith, few_voices s j is_good is_there, same, all, length-take (seated s j).count (seated s j).voices)
 
 -- ---- what one voice more adds
 module _ (p : Voice → Bool) where
@@ -107,86 +131,45 @@ module _ (p : Voice → Bool) where
   without_next : (d : Voice) (i : ℕ) (l : List Voice) → i < length l → without p (take (i + 1) l) ≡ without p (take i l) ++ cond (p (get_or l i d)) [] (get_or l i d ∷ [])
   without_next d i l lt = ap (λ (k : ℕ). without p (take k l)) (one_more i) ∙ without_suc d i l lt
 
-  rises : (i n : ℕ) (l : List Voice) → i ≤ n → length (without p (take i l)) ≤ length (without p (take n l))
+  -- no more of its front than of it all
+  rises : (i : ℕ) (l : List Voice) → length (without p (take i l)) ≤ length (without p l)
   unfolding without
-  rises zero n l h = omega arith
-  rises (suc i) zero l h = absurd (omega (arith, h))
-  rises (suc i) (suc n) [] h = omega arith
-  rises (suc i) (suc n) (x ∷ xs) h = go (p x) (rises i n xs (omega (arith, h)))
+  rises zero l = omega arith
+  rises (suc i) [] = omega arith
+  rises (suc i) (x ∷ xs) = go (p x) (rises i xs)
     where
-      go : (b : Bool) → length (without p (take i xs)) ≤ length (without p (take n xs))
-          → length (cond b (without p (take i xs)) (x ∷ without p (take i xs))) ≤ length (cond b (without p (take n xs)) (x ∷ without p (take n xs)))
+      go : (b : Bool) → length (without p (take i xs)) ≤ length (without p xs)
+          → length (cond b (without p (take i xs)) (x ∷ without p (take i xs))) ≤ length (cond b (without p xs) (x ∷ without p xs))
       go true k = k
       go false k = omega (arith, k)
 
--- ---- how many voices are listed
-module _ (all : Bool) where
-  pub count_none : (l : List Voice) → 0 ≡ listed_count all (take 0 l)
-  unfolding listed_count without
-  count_none l = refl
-
-  pub count_few : (i : ℕ) (l : List Voice) → listed_count all (take i l) ≤ i
-  unfolding listed_count
-  count_few i l = let k : length (take i l) ≤ i = omega (arith, length-take i l) in omega (arith, fewer (unlisted all) (take i l), k)
-
-  pub count_rises : (i n : ℕ) (l : List Voice) → i ≤ n → listed_count all (take i l) ≤ listed_count all (take n l)
-  unfolding listed_count
-  count_rises i n l h = rises (unlisted all) i n l h
-
-  module _ (d : Voice) (i : ℕ) (l : List Voice) (lt : i < length l) where
-    abbrev v : Voice
-    v = get_or l i d
-
-    pub count_kept : unlisted all v ≡ true → listed_count all (take i l) ≡ listed_count all (take (i + 1) l)
-    unfolding listed_count
-    count_kept e = let k : length (without (unlisted all) (take (i + 1) l)) ≡ length (without (unlisted all) (take i l) ++ cond true [] (v ∷ [])) = ap length (without_next (unlisted all) d i l lt) ∙ ap (λ (b : Bool). length (without (unlisted all) (take i l) ++ cond b [] (v ∷ []))) e in
-        omega (arith, k, length-append (without (unlisted all) (take i l)) [])
-
-    pub count_more : unlisted all v ≡ false → listed_count all (take i l) + 1 ≡ listed_count all (take (i + 1) l)
-    unfolding listed_count
-    count_more e = let k : length (without (unlisted all) (take (i + 1) l)) ≡ length (without (unlisted all) (take i l) ++ cond false [] (v ∷ [])) = ap length (without_next (unlisted all) d i l lt) ∙ ap (λ (b : Bool). length (without (unlisted all) (take i l) ++ cond b [] (v ∷ []))) e in
-        omega (arith, k, length-append (without (unlisted all) (take i l)) (v ∷ []))
-
-    pub count_next : i < 32 → cond (unlisted all v) (listed_count all (take i l)) ((listed_count all (take i l) + 1) % 2 ^ 64) ≡ listed_count all (take (i + 1) l)
-    count_next small = go (unlisted all v) refl
-      where
-        go : (b : Bool) → unlisted all v ≡ b → cond b (listed_count all (take i l)) ((listed_count all (take i l) + 1) % 2 ^ 64) ≡ listed_count all (take (i + 1) l)
-        go true e = count_kept e
-        go false e = mod-eq_of_lt (omega (arith, count_few i l, small)) ∙ count_more e
-
-pub count_all : (l : List Voice) → listed_count true l ≡ length l
-unfolding listed_count without
-count_all [] = refl
-count_all (x ∷ l) = ap suc (count_all l)
-
--- as many voices as there are in use, up to all, are looked at
-pub whole_seen : (l : List Voice) (count i : ℕ) → i ≡ min count 32 → (0 < i → length l ≡ 32) → length (take count l) ≡ min count 32
-whole_seen l count zero e long = let none : count ≡ 0 = omega (arith, e) in omega (arith, length-take count l, none)
-whole_seen l count (suc i) e long = let all : length l ≡ 32 = long (omega arith) in omega (arith, length-take count l, all)
-
 -- ---- the notes
-module _ (d : Voice) (i : ℕ) (l : List Voice) (lt : i < length l) where
-  abbrev u : Voice
-  u = get_or l i d
+abbrev done : Voice → Bool
+done v = v.finished
 
-  abbrev noted : List Voice → List ℕ
-  noted vs = map (λ (v : Voice). into_u64_of v.note) vs
+abbrev noted : List Voice → List ℕ
+noted vs = map (λ (v : Voice). into_u64_of v.note) vs
 
-  noted_on : (vs ws : List Voice) → noted (vs ++ ws) ≡ noted vs ++ noted ws
-  noted_on [] ws = refl
-  noted_on (w ∷ vs) ws = ap (λ (ns : List ℕ). into_u64_of w.note ∷ ns) (noted_on vs ws)
+noted_on : (vs ws : List Voice) → noted (vs ++ ws) ≡ noted vs ++ noted ws
+noted_on [] ws = refl
+noted_on (w ∷ vs) ws = ap (λ (ns : List ℕ). into_u64_of w.note ∷ ns) (noted_on vs ws)
 
-  next_notes : (b : Bool) → u.finished ≡ b → notes_of (take (i + 1) l) ≡ notes_of (take i l) ++ noted (cond b [] (u ∷ []))
-  unfolding notes_of
-  next_notes b e = ap noted (without_next (λ (v : Voice). v.finished) d i l lt ∙ ap (λ (c : Bool). without (λ (v : Voice). v.finished) (take i l) ++ cond c [] (u ∷ [])) e) ∙ noted_on (without (λ (v : Voice). v.finished) (take i l)) (cond b [] (u ∷ []))
+-- there is one for each voice that is counted
+counted_from : (n : ℕ) (l : List Voice) → n + length (without done l) ≡ fold (λ (a : ℕ) (v : Voice). a + cond (not v.finished) 1 0) n l
+unfolding without
+counted_from n [] = omega arith
+counted_from n (x ∷ xs) = go x.finished (λ k. counted_from k xs)
+  where
+    go : (b : Bool) → ((k : ℕ) → k + length (without done xs) ≡ fold (λ (a : ℕ) (v : Voice). a + cond (not v.finished) 1 0) k xs) → n + length (cond b (without done xs) (x ∷ without done xs)) ≡ fold (λ (a : ℕ) (v : Voice). a + cond (not v.finished) 1 0) (n + cond (not b) 1 0) xs
+    go true rest = let e : n + length (without done xs) ≡ n + 0 + length (without done xs) = omega arith in e ∙ rest (n + 0)
+    go false rest = let e : n + length (x ∷ without done xs) ≡ n + 1 + length (without done xs) = omega arith in e ∙ rest (n + 1)
 
-pub notes_count : (vs : List Voice) → length (notes_of vs) ≡ listed_count false vs
-unfolding notes_of listed_count
-notes_count vs = length-map (without (λ (v : Voice). v.finished) vs) _
+counted_without : (l : List Voice) → length (without done l) ≡ count_by (λ (v : Voice). not v.finished) l
+counted_without l = let e : length (without done l) ≡ 0 + length (without done l) = omega arith in e ∙ counted_from 0 l
 
--- the list with those of the first i voices in its front
-abbrev pub noted_upto : List Voice → List ℕ → ℕ → List ℕ
-noted_upto l lent i = in_front (notes_of (take i l)) lent
+pub notes_count : (l : List Voice) → length (notes_of l) ≡ count_by (λ (v : Voice). not v.finished) l
+unfolding notes_of
+notes_count l = length-map (without done l) _ ∙ counted_without l
 
 append-nil : {X : Type 0} (a : List X) → a ++ [] ≡ a
 append-nil [] = refl
@@ -198,199 +181,148 @@ stored_front [] (y ∷ l) x lt = refl
 stored_front (b ∷ a) [] x lt = absurd (omega (arith, lt))
 stored_front (b ∷ a) (y ∷ l) x lt = ap (λ (ys : List _). b ∷ ys) (stored_front a l x (omega (arith, lt)))
 
+-- the notes of the first i voices stand in the front of the list
 module _ (l : List Voice) (lent : List ℕ) where
-  pub noted_none : lent ≡ noted_upto l lent 0
+  pub record Noted (i k : ℕ) (notes : List ℕ) : Type 0 where
+    pub counted : k ≡ length (notes_of (take i l))
+    pub listed : notes ≡ in_front (notes_of (take i l)) lent
+
+  pub noted_none : Noted 0 0 lent
   unfolding notes_of without
-  noted_none = refl
+  noted_none = record { counted = refl; listed = refl }
 
-  module _ (d : Voice) (i : ℕ) (lt : i < length l) where
-    pub noted_kept : (get_or l i d).finished ≡ true → noted_upto l lent i ≡ noted_upto l lent (i + 1)
-    noted_kept e = ap (λ (ns : List ℕ). in_front ns lent) (sym (append-nil (notes_of (take i l))) ∙ sym (next_notes d i l lt true e))
+  module _ {i k : ℕ} {notes : List ℕ} (z : Noted i k notes) (d : Voice) (lt : i < length l) where
+    abbrev u : Voice
+    u = get_or l i d
 
-    pub noted_more : (get_or l i d).finished ≡ false → listed_count false (take i l) < length lent
-        → set (noted_upto l lent i) (listed_count false (take i l)) (into_u64_of (get_or l i d).note) ≡ noted_upto l lent (i + 1)
+    next_notes : (b : Bool) → u.finished ≡ b → notes_of (take (i + 1) l) ≡ notes_of (take i l) ++ noted (cond b [] (u ∷ []))
+    unfolding notes_of
+    next_notes b e = ap noted (without_next done d i l lt ∙ ap (λ (c : Bool). without done (take i l) ++ cond c [] (u ∷ [])) e) ∙ noted_on (without done (take i l)) (cond b [] (u ∷ []))
+
+    pub noted_kept : u.finished ≡ true → Noted (i + 1) k notes
+    noted_kept e =
+        let same : notes_of (take i l) ≡ notes_of (take (i + 1) l) = sym (append-nil (notes_of (take i l))) ∙ sym (next_notes true e) in
+        record { counted = z.counted ∙ ap length same; listed = z.listed ∙ ap (λ (ns : List ℕ). in_front ns lent) same }
+
+    -- there is room for the note of a voice that isn't finished
+    pub noted_room : u.finished ≡ false → count_by (λ (v : Voice). not v.finished) l ≤ length lent → k < length lent
+    unfolding notes_of
+    noted_room e room =
+        let more : length (notes_of (take (i + 1) l)) ≡ length (notes_of (take i l) ++ noted (u ∷ [])) = ap length (next_notes false e) in
+        let most : length (without done (take (i + 1) l)) ≤ length (without done l) = rises done (i + 1) l in
+        omega (arith, z.counted, more, length-append (notes_of (take i l)) (noted (u ∷ [])), most, length-map (without done (take (i + 1) l)) (λ (v : Voice). into_u64_of v.note), counted_without l, room)
+
+    pub noted_more : u.finished ≡ false → k < length lent → Noted (i + 1) (k + 1) (set notes k (into_u64_of u.note))
     noted_more e room =
-        ap (λ (k : ℕ). set (noted_upto l lent i) k (into_u64_of (get_or l i d).note)) (sym (notes_count (take i l)))
-        ∙ stored_front (notes_of (take i l)) lent (into_u64_of (get_or l i d).note) (omega (arith, notes_count (take i l), room))
-        ∙ ap (λ (ns : List ℕ). in_front ns lent) (sym (next_notes d i l lt false e))
+        let more : notes_of (take (i + 1) l) ≡ notes_of (take i l) ++ noted (u ∷ []) = next_notes false e in
+        record {
+          counted = omega (arith, z.counted, ap length more, length-append (notes_of (take i l)) (noted (u ∷ [])));
+          listed = (λ q. set (z.listed q) (z.counted q) (into_u64_of u.note))
+              ∙ stored_front (notes_of (take i l)) lent (into_u64_of u.note) (omega (arith, z.counted, room))
+              ∙ ap (λ (ns : List ℕ). in_front ns lent) (sym more);
+        }
 
--- ---- all of it
-as_many : {X : Type 0} (k : ℕ) (l : List X) → take (length (take k l)) l ≡ take k l
-as_many zero l = refl
-as_many (suc k) [] = refl
-as_many (suc k) (x ∷ l) = ap (λ (ys : List _). x ∷ ys) (as_many k l)
-
--- an answer F shows a channel that is there, on a good record
-module _ (s : Sampler) (j : ℕ) where
-  shown : {R : Type 0} (F : Bool → Bool → Channel → R) → ((b : Bool) (c d : Channel) → F false b c ≡ F false b d) → ((c d : Channel) → F true false c ≡ F true false d)
-      → F (good_sampler s) (ltb j s.count) (seated s j) ≡ F (good_sampler s) (ltb j s.count) (channel_at s j)
-  shown F broken absent = go (good_sampler s) (ltb j s.count) refl refl
+  pub noted_all : {k : ℕ} {notes : List ℕ} → (i : ℕ) → length l ≤ i → Noted i k notes → notes ≡ in_front (notes_of l) lent
+  noted_all i h z = z.listed ∙ ap (λ (vs : List Voice). in_front (notes_of vs) lent) (all_taken i l h)
     where
-      go : (good there : Bool) → good_sampler s ≡ good → ltb j s.count ≡ there → F good there (seated s j) ≡ F good there (channel_at s j)
-      go false there g e = broken there _ _
-      go true false g e = absent _ _
-      go true true g e = ap (λ (k : ℕ). F true true (channel_at s k)) (seat_is j (let low = ltb-true j s.count e in omega (arith, sizes_count _ _ (good_sizes_lem s g))))
+      all_taken : (i : ℕ) (l : List Voice) → length l ≤ i → take i l ≡ l
+      all_taken zero [] h = refl
+      all_taken zero (x ∷ xs) h = absurd (omega (arith, h))
+      all_taken (suc i) [] h = refl
+      all_taken (suc i) (x ∷ xs) h = ap (λ (ys : List Voice). x ∷ ys) (all_taken i xs (omega (arith, h)))
 
--- the rows of the notes of a channel for which there is so much room
-abbrev pub note_rows : Bool → Bool → Channel → ℕ → ℕ
-note_rows good there c room = list_rows (not good) (not there) false (count_in false c) room
+-- ---- the answers of both questions
+module _ (s : Sampler) (j : ℕ) (lent : List ℕ) where
+  abbrev answer : List ℕ
+  answer = notes_of (live (channel_at s j))
 
--- while voices are looked at there is one more, and the notes up to it have room
-pub notes_fit : (good there : Bool) (c : Channel) (room i : ℕ) → i < cond (eqb (note_rows good there c room) 0) (count_in true c) 0
-    → (i < length c.voices) × (listed_count false (take (i + 1) c.voices) ≤ room)
-notes_fit false there c room i h = absurd (omega (arith, h))
-notes_fit true false c room i h = absurd (omega (arith, h))
-notes_fit true true c room i h = go (ltb room (count_in false c)) refl h
-  where
-    go : (b : Bool) → ltb room (count_in false c) ≡ b → i < cond (eqb (row b 8 0) 0) (count_in true c) 0 → (i < length c.voices) × (listed_count false (take (i + 1) c.voices) ≤ room)
-    go true e k = absurd (omega (arith, k))
-    go false e k =
-        let low : i < length (live c) = omega (arith, k, count_all (live c)) in
-        let rises : listed_count false (take (i + 1) c.voices) ≤ count_in false c = count_rises false (i + 1) c.count c.voices (omega (arith, low, length-take c.count c.voices)) in
-        (omega (arith, low, length-take c.count c.voices), omega (arith, rises, ltb-false room (count_in false c) e))
+  abbrev own_row : Result ℕ Refusal
+  own_row = row (ltb (length lent) (length answer)) ShortList (Ok (length answer))
 
--- how many voices are looked at, each of them in use
-abbrev pub note_turns : Sampler → ℕ → ℕ → ℕ
-note_turns s j room = cond (eqb (note_rows (good_sampler s) (ltb j s.count) (seated s j) room) 0) (count_in true (seated s j)) 0
+  abbrev Answers : Result ℕ Refusal → List ℕ → Type 0
+  Answers r notes = (r ≡ iter_active_notes_of s j (length lent)) × (notes ≡ active_notes_after s j lent)
 
-taken : (b : Bool) (n i : ℕ) → i < cond b n 0 → i < n
-taken true n i h = h
-taken false n i h = absurd (omega (arith, h))
+  answers : (r : Result ℕ Refusal) → question_rows s j own_row ≡ r → Answers r (cond (is_ok r) (in_front answer lent) lent)
+  unfolding list_counted list_after
+  answers r e = (sym e, sym (ap (λ (c : Result ℕ Refusal). cond (is_ok c) (in_front answer lent) lent) e))
 
-pub few_looked : (b : Bool) (c : Channel) (i : ℕ) → length (live c) ≡ min c.count 32 → i < cond b (count_in true c) 0 → i < 32
-few_looked b c i whole h = omega (arith, taken b (count_in true c) i h, count_all (live c), whole)
+  pub notes_refused : (f : Refusal) → Err f ≡ question_rows s j ok → Answers (Err f) lent
+  notes_refused f h = answers (Err f) (rows_refuse s j own_row f h)
 
--- where they are all looked at, or none, the list is what it is to be
-pub notes_after : (c : Channel) (lent : List ℕ) (number : ℕ) → noted_upto c.voices lent (cond (eqb number 0) (count_in true c) 0) ≡ list_after_by (notes_of (live c)) lent number
-notes_after c lent number = go (eqb number 0)
-  where
-    go : (b : Bool) → noted_upto c.voices lent (cond b (count_in true c) 0) ≡ cond b (in_front (notes_of (live c)) lent) lent
-    go true = ap (λ (vs : List Voice). in_front (notes_of vs) lent) (ap (λ (k : ℕ). take k c.voices) (count_all (live c)) ∙ as_many c.count c.voices)
-    go false = sym (noted_none c.voices lent)
+  module _ (h : ok ≡ question_rows s j ok) (n : ℕ) (counts : n ≡ unfinished (seated s j)) where
+    as_many : n ≡ length answer
+    unfolding unfinished
+    as_many = counts ∙ ap (λ (c : Channel). count_by (λ (v : Voice). not v.finished) (live c)) (seated_is s j h) ∙ sym (notes_count (live (channel_at s j)))
 
-module _ (s : Sampler) (j : ℕ) where
-  -- the number on the channel that is read, by how many notes it has
-  same_rows : (good there : Bool) (c : Channel) (room : ℕ) → note_rows good there c room ≡ list_number_by (not good) (not there) (notes_of (live c)) room
-  same_rows good there c room = ap (λ (k : ℕ). row (not good) 9 (row (not there) 1 (row (ltb room k) 8 0))) (sym (notes_count (live c)))
+    pub notes_short : (f : Refusal) → Err f ≡ row (ltb (length lent) n) ShortList ok → Answers (Err f) lent
+    notes_short f e =
+        answers (Err f) (rows_pass s j h own_row ∙ row_refuses (ltb (length lent) (length answer)) ShortList (Ok (length answer)) f (e ∙ ap (λ (k : ℕ). row (ltb (length lent) k) ShortList ok) as_many))
 
-  abbrev number : ℕ → ℕ
-  number room = note_rows (good_sampler s) (ltb j s.count) (seated s j) room
+    pub notes_room : ok ≡ row (ltb (length lent) n) ShortList ok → count_by (λ (v : Voice). not v.finished) (live (seated s j)) ≤ length lent
+    unfolding unfinished
+    notes_room e = let fits : n ≤ length lent = ltb-false (length lent) n (row_fails (ltb (length lent) n) ShortList e) in omega (arith, fits, counts)
 
-  pub notes_counted : (room : ℕ) → answered (counted.Done (count_in false (seated s j))) counted.Refused (number room) ≡ iter_active_notes_of s j room
-  unfolding answered list_counted list_number
-  notes_counted room =
-      ap (λ (k : ℕ). answered (counted.Done k) counted.Refused (number room)) (sym (notes_count (live (seated s j))))
-      ∙ ap (λ (n : ℕ). list_counted_by (notes_of (live (seated s j))) n) (same_rows (good_sampler s) (ltb j s.count) (seated s j) room)
-      ∙ shown s j (λ good there c. list_counted_by (notes_of (live c)) (list_number_by (not good) (not there) (notes_of (live c)) room)) (λ b c d. refl) (λ c d. refl)
-
-  pub notes_listed : (lent : List ℕ) → list_after_by (notes_of (live (seated s j))) lent (number (length lent)) ≡ active_notes_after s j lent
-  unfolding list_after list_number
-  notes_listed lent =
-      ap (λ (n : ℕ). list_after_by (notes_of (live (seated s j))) lent n) (same_rows (good_sampler s) (ltb j s.count) (seated s j) (length lent))
-      ∙ shown s j (λ good there c. list_after_by (notes_of (live c)) lent (list_number_by (not good) (not there) (notes_of (live c)) (length lent))) (λ b c d. refl) (λ c d. refl)
+    pub notes_listed : ok ≡ row (ltb (length lent) n) ShortList ok → (notes : List ℕ) → notes ≡ in_front (notes_of (live (seated s j))) lent → Answers (Ok n) notes
+    notes_listed e notes is =
+        let a = answers (Ok (length answer)) (rows_pass s j h own_row ∙ row_passes (ltb (length lent) (length answer)) ShortList (Ok (length answer)) (e ∙ ap (λ (k : ℕ). row (ltb (length lent) k) ShortList ok) as_many)) in
+        (ap Ok as_many ∙ a.0, is ∙ ap (λ (c : Channel). in_front (notes_of (live c)) lent) (seated_is s j h) ∙ a.1)
 
 -- ---- the figures of the voices, which go by channel a
-module _ (p : Params) (a : Channel) where
-  abbrev figures : Channel → List VoiceInfo
-  figures c = map (figures_of p a c) (live c)
+module _ (p : Params) (a c : Channel) (lent : List VoiceInfo) where
+  abbrev figures : List VoiceInfo
+  figures = map (figures_of p a c) (live c)
 
   -- the list with those of the first i voices in its front
-  abbrev pub figured_upto : Channel → List VoiceInfo → ℕ → List VoiceInfo
-  figured_upto c lent i = fronted (figures c) lent i
+  abbrev pub figured_upto : ℕ → List VoiceInfo
+  figured_upto i = fronted figures lent i
 
-  module _ (c : Channel) (lent : List VoiceInfo) (i : ℕ) where
-    pub figured_next : i < length (live c) → length (live c) ≤ length lent → set (figured_upto c lent i) i (figures_of p a c (get_or c.voices i blank_voice)) ≡ figured_upto c lent (i + 1)
-    figured_next lt room =
-        ap (set (figured_upto c lent i) i) (sym (get_or-map (figures_of p a c) (live c) i blank_voice ∙ ap (figures_of p a c) (get_or-take c.count c.voices i blank_voice (omega (arith, lt, length-take c.count c.voices)))))
-        ∙ fronted_next (figures c) lent i (figures_of p a c blank_voice) (omega (arith, lt, length-map (live c) (figures_of p a c))) (omega (arith, lt, room))
-        ∙ ap (figured_upto c lent) (sym (one_more i))
+  pub figured_next : (i : ℕ) (d : Voice) → i < length (live c) → length (live c) ≤ length lent → set (figured_upto i) i (figures_of p a c (get_or (live c) i d)) ≡ figured_upto (i + 1)
+  figured_next i d lt room =
+      ap (set (figured_upto i) i) (sym (get_or-map (figures_of p a c) (live c) i d))
+      ∙ fronted_next figures lent i (figures_of p a c d) (omega (arith, lt, length-map (live c) (figures_of p a c))) (omega (arith, lt, room))
+      ∙ ap figured_upto (sym (one_more i))
 
-  -- the rows of the figures of a channel for which there is so much room
-  abbrev pub info_rows : Bool → Bool → Channel → ℕ → ℕ
-  info_rows good there c room = list_rows (not good) (not there) (beyond_limits p) (count_in true c) room
+  figured_all : length (live c) ≡ c.count → figured_upto (length (live c)) ≡ in_front (take c.count (in_front figures no_infos)) lent
+  figured_all full =
+      let many : length figures ≡ c.count = length-map (live c) (figures_of p a c) ∙ full in
+      ap figured_upto (sym (length-map (live c) (figures_of p a c)))
+      ∙ ap (λ (ys : List VoiceInfo). ys ++ drop (length figures) lent) (take-length figures)
+      ∙ sym (ap (λ (ys : List VoiceInfo). in_front ys lent) (ap (λ (k : ℕ). take k (in_front figures no_infos)) (sym many) ∙ take-append_seam figures (drop (length figures) no_infos)))
 
-  -- while voices are looked at there is one more, and all have room
-  pub infos_room : (good there : Bool) (c : Channel) (room i : ℕ) → i < cond (eqb (info_rows good there c room) 0) (count_in true c) 0 → (i < length (live c)) × (length (live c) ≤ room)
-  infos_room false there c room i h = absurd (omega (arith, h))
-  infos_room true false c room i h = absurd (omega (arith, h))
-  infos_room true true c room i h = go (beyond_limits p) (ltb room (count_in true c)) refl h
-    where
-      go : (beyond b : Bool) → ltb room (count_in true c) ≡ b → i < cond (eqb (row beyond 4 (row b 8 0)) 0) (count_in true c) 0 → (i < length (live c)) × (length (live c) ≤ room)
-      go true b e k = absurd (omega (arith, k))
-      go false true e k = absurd (omega (arith, k))
-      go false false e k = (omega (arith, k, count_all (live c)), omega (arith, count_all (live c), ltb-false room (count_in true c) e))
+module _ (s : Sampler) (j : ℕ) (p : Params) (lent : List VoiceInfo) where
+  abbrev own : Channel → Result VoiceInfos Refusal
+  own c = row (ltb (length lent) c.count) ShortList (Ok (voice_infos_of p (channel_at s 0) c))
 
-  -- what is answered with that number, and the list then: as it is written, and as it is to be
-  abbrev answer : ℕ → Channel → VoiceInfos
-  answer number c = answered (voice_infos_of p a c) (infos_with no_infos 0) number
+  abbrev Infos : Result ℕ Refusal → List VoiceInfo → Type 0
+  Infos r list = (r ≡ voice_info_counted s j p lent) × (list ≡ voice_info_after s j p lent)
 
-  abbrev written : List VoiceInfo → ℕ → Channel → Counted × List VoiceInfo
-  written lent number c = (answered (counted.Done (count_in true c)) counted.Refused number, figured_upto c lent (cond (eqb number 0) (count_in true c) 0))
+  infos_are : (r : Result VoiceInfos Refusal) → question_rows s j (row (beyond_limits p) BeyondLimits (own (channel_at s j))) ≡ r → Infos (infos_counted r) (listed_of r lent)
+  unfolding get_voice_info_of
+  infos_are r e = (sym (ap infos_counted e), sym (ap (λ (v : Result VoiceInfos Refusal). listed_of v lent) e))
 
-  abbrev to_be : List VoiceInfo → ℕ → Channel → Counted × List VoiceInfo
-  to_be lent number c = (infos_counted (answer number c), listed_of (answer number c) lent)
+  pub infos_refused : (f : Refusal) → Err f ≡ question_rows s j ok → Infos (Err f) lent
+  unfolding infos_counted listed_of
+  infos_refused f h = infos_are (Err f) (rows_refuse s j _ f h)
 
-  module _ (c : Channel) (lent : List VoiceInfo) (full : length (live c) ≡ c.count) where
-    many : length (figures c) ≡ c.count
-    many = length-map (live c) (figures_of p a c) ∙ full
+  module _ (h : ok ≡ question_rows s j ok) where
+    pub infos_beyond : (f : Refusal) → Err f ≡ row (beyond_limits p) BeyondLimits ok → Infos (Err f) lent
+    unfolding infos_counted listed_of
+    infos_beyond f e = infos_are (Err f) (rows_pass s j h _ ∙ row_refuses (beyond_limits p) BeyondLimits (own (channel_at s j)) f e)
 
-    front_so : figured_upto c lent (count_in true c) ≡ in_front (take c.count (in_front (figures c) no_infos)) lent
-    front_so =
-        ap (figured_upto c lent) (count_all (live c) ∙ sym (length-map (live c) (figures_of p a c)))
-        ∙ ap (λ (ys : List VoiceInfo). ys ++ drop (length (figures c)) lent) (take-length (figures c))
-        ∙ sym (ap (λ (ys : List VoiceInfo). in_front ys lent) (ap (λ (k : ℕ). take k (in_front (figures c) no_infos)) (sym many) ∙ take-append_seam (figures c) (drop (length (figures c)) no_infos)))
+    module _ (within : ok ≡ row (beyond_limits p) BeyondLimits ok) where
+      own_is : question_rows s j (row (beyond_limits p) BeyondLimits (own (channel_at s j))) ≡ own (seated s j)
+      own_is = rows_pass s j h _ ∙ row_passes (beyond_limits p) BeyondLimits (own (channel_at s j)) within ∙ sym (ap own (seated_is s j h))
 
-    written_so : (m : ℕ) → written lent m c ≡ to_be lent m c
-    unfolding answered infos_counted listed_of voice_infos_of
-    written_so m = go (eqb m 0) refl
-      where
-        go : (b : Bool) → eqb m 0 ≡ b
-            → ◌≡◌ {A = Counted × List VoiceInfo} (cond b (counted.Done (count_in true c)) (counted.Refused m), figured_upto c lent (cond b (count_in true c) 0))
-            (infos_counted (cond b (voice_infos_of p a c) (infos_with no_infos 0 m)), listed_of (cond b (voice_infos_of p a c) (infos_with no_infos 0 m)) lent)
-        go true e = ap₂ (λ (r : Counted) (ys : List VoiceInfo). (r, ys)) (ap counted.Done (count_all (live c) ∙ full)) front_so
-        go false e = ap (λ (r : Counted). (r, lent)) (sym (ap (λ (b : Bool). cond b (counted.Done 0) (counted.Refused m)) e))
+      pub infos_short : (f : Refusal) → Err f ≡ row (ltb (length lent) (seated s j).count) ShortList ok → Infos (Err f) lent
+      unfolding infos_counted listed_of
+      infos_short f e = infos_are (Err f) (own_is ∙ row_refuses (ltb (length lent) (seated s j).count) ShortList (Ok (voice_infos_of p (channel_at s 0) (seated s j))) f e)
 
--- how many voices are looked at
-abbrev pub info_turns : Sampler → ℕ → Params → ℕ → ℕ
-info_turns s j p room = cond (eqb (info_rows p (channel_at s 0) (good_sampler s) (ltb j s.count) (seated s j) room) 0) (count_in true (seated s j)) 0
+      pub infos_room : ok ≡ row (ltb (length lent) (seated s j).count) ShortList ok → (seated s j).count ≤ length lent
+      infos_room e = ltb-false (length lent) (seated s j).count (row_fails (ltb (length lent) (seated s j).count) ShortList e)
 
-module _ (s : Sampler) (j : ℕ) (p : Params) (lent : List VoiceInfo) (all : length (live (seated s j)) ≡ min (seated s j).count 32) where
-  abbrev first : Channel
-  first = channel_at s 0
-
-  infos_so : written p first lent (info_rows p first (good_sampler s) (ltb j s.count) (seated s j) (length lent)) (seated s j)
-      ≡ to_be p first lent (row (not (good_sampler s)) 9 (row (not (ltb j s.count)) 1 (row (beyond_limits p) 4 (row (ltb (length lent) (channel_at s j).count) 8 0)))) (channel_at s j)
-  unfolding answered infos_counted listed_of
-  infos_so = go (good_sampler s) (ltb j s.count) refl refl
-    where
-      go : (good there : Bool) → good_sampler s ≡ good → ltb j s.count ≡ there
-          → written p first lent (info_rows p first good there (seated s j) (length lent)) (seated s j)
-          ≡ to_be p first lent (row (not good) 9 (row (not there) 1 (row (beyond_limits p) 4 (row (ltb (length lent) (channel_at s j).count) 8 0)))) (channel_at s j)
-      go false there g e = refl
-      go true false g e = refl
-      go true true g e =
-          let low : j < s.count = ltb-true j s.count e in
-          let is : seat_of j ≡ j = seat_is j (omega (arith, low, sizes_count _ _ (good_sizes_lem s g))) in
-          let same : seated s j ≡ channel_at s j = ap (channel_at s) is in
-          let long : length (live (channel_at s j)) ≡ min (channel_at s j).count 32 = sym (ap (λ (c : Channel). length (live c)) same) ∙ all ∙ ap (λ (c : Channel). min c.count 32) same in
-          let full : length (live (channel_at s j)) ≡ (channel_at s j).count = omega (arith, long, few_voices s j g low) in
-          let rows : ℕ → ℕ = λ n. row (beyond_limits p) 4 (row (ltb (length lent) n) 8 0) in
-          ap (λ (c : Channel). written p first lent (rows (count_in true c)) c) same
-          ∙ ap (λ (n : ℕ). written p first lent (rows n) (channel_at s j)) (count_all (live (channel_at s j)) ∙ full)
-          ∙ written_so p first (channel_at s j) lent full (rows (channel_at s j).count)
-
-  pub infos_counted_lem : answered (counted.Done (count_in true (seated s j))) counted.Refused (info_rows p first (good_sampler s) (ltb j s.count) (seated s j) (length lent)) ≡ voice_info_counted s j p lent
-  unfolding get_voice_info_of info_number
-  infos_counted_lem = ap (λ (r : Counted × List VoiceInfo). r.0) infos_so
-
-  pub infos_listed : figured_upto p first (seated s j) lent (cond (eqb (info_rows p first (good_sampler s) (ltb j s.count) (seated s j) (length lent)) 0) (count_in true (seated s j)) 0) ≡ voice_info_after s j p lent
-  unfolding get_voice_info_of info_number
-  infos_listed = ap (λ (r : Counted × List VoiceInfo). r.1) infos_so
-
--- the figures of a voice, from the lengths of its phrase
-pub info_so : (p : Params) (i : ℕ) (s : Sampler) (j : ℕ) (v : Voice) → v ≡ voice_in i (seated s j)
-    → voice_info_of (loop_length_of p (phrase_length v.phrase (seated s 0))) (as_float (phrase_length v.phrase (seated s j))) v ≡ info_in p i s j
-unfolding figures_of
-info_so p i s j v e =
-    ap (λ (k : ℕ). voice_info_of (loop_length_of p (phrase_length v.phrase (channel_at s k))) (as_float (phrase_length v.phrase (seated s j))) v) (seat_is 0 (omega arith))
-    ∙ ap (figures_of p (channel_at s 0) (seated s j)) e
+      pub infos_listed : ok ≡ row (ltb (length lent) (seated s j).count) ShortList ok → length (seated s j).voices ≡ 32
+          → (list : List VoiceInfo) → list ≡ figured_upto p (channel_at s 0) (seated s j) lent (length (live (seated s j))) → Infos (Ok (seated s j).count) list
+      unfolding infos_counted listed_of voice_infos_of
+      infos_listed e whole list is =
+          let a = infos_are (Ok (voice_infos_of p (channel_at s 0) (seated s j))) (own_is ∙ row_passes (ltb (length lent) (seated s j).count) ShortList (Ok (voice_infos_of p (channel_at s 0) (seated s j))) e) in
+          (a.0, is ∙ figured_all p (channel_at s 0) (seated s j) lent (all_live s j h whole) ∙ a.1)

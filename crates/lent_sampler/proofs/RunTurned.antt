@@ -1,4 +1,4 @@
--- The loop of a run on a lent record: what stands after i entries, by the laws of the call by value. A refused run has no entry to play. Assumes nothing.
+-- The loop of a run on a lent record: what stands after i entries, by the laws of the call by value. A refused run has no entry to play but those before a clock's end. Assumes nothing.
 use Rattle.std.proofs.Common.{add-one, ◌≡◌, ℕ, zero, suc, ◌+◌, ◌-◌, ◌*◌, ◌/◌, ◌<◌, ◌≤◌, min, Bool, true, false, cond, List, ◌++◌, length, get_or, take, drop, set, sym, refl, ap, ◌∙◌, subst, le_trans, le_of_eq, mul-le-mul_right, suc-mul, zero-mul, arith, length-set}
 use native.Mathlib.Nat.{sub-zero}
 use lib.Ieee.{Float, nan, binary32, mul}
@@ -10,17 +10,17 @@ use Rattle.channel.specs.declared.Channel.{Channel}
 use Rattle.channel.specs.Channels.{channel_of, memory_of}
 use Rattle.channel.specs.Channels.{process_sample_of as channel_sample_of}
 use Rattle.sampler.specs.declared.Sampler.{Sampler}
-use Rattle.sampler.specs.Refusals.{channel_at, frames_left, run_number, done_of}
+use Rattle.sampler.specs.Refusals.{channel_at, frames_left, run_judged, begun, done_of}
 use Rattle.sampler.specs.Samplers.{with_channels, channel_stepped_of, output_of, memory_at, Framed, framed, Frames, frames_of, ran_of, run_answer}
 use Rattle.sampler.proofs.Rows.{Fitting, fitting}
-use Rattle.sampler.proofs.RunRows.{working, run_begins, done_turns}
+use Rattle.sampler.proofs.RunRows.{run_begins, done_turns}
 use Rattle.sampler.proofs.Parts.{stepped_is, output-is, memory_is}
 use Rattle.sampler.proofs.Entries.{memory_at_length}
 use Rattle.sampler.proofs.Seats.{none}
 use Rattle.lent_channel.specs.declared.Heard.{Heard}
 use Rattle.lent_channel.specs.Turns.{heard_of}
 use Rattle.lent_sampler.specs.Hearing.{at_volume}
-use Rattle.lent_sampler.specs.Numbers.{run_seat}
+use Rattle.lent_sampler.specs.Runs.{run_seat}
 use Rattle.lent_sampler.proofs.RunTurns.{turn_of, turns_of, all_turns, seat_low}
 
 module _ (s : Sampler) (l : List Float) (p : Params) (m : List ℕ) where
@@ -56,9 +56,9 @@ module _ (s : Sampler) (l : List Float) (p : Params) (m : List ℕ) where
   -- a run of which a frame is done has a good record
   pub done_fitting : 0 < frames → Fitting s (length m)
   unfolding run_answer done_of
-  done_fitting h = go (working (run_number s (length l) p (length m))) refl h
+  done_fitting h = go (begun (run_judged s (length l) p (length m))) refl h
     where
-      go : (b : Bool) → working (run_number s (length l) p (length m)) ≡ b → 0 < cond b (min (length l / s.count) (frames_left s)) 0 → Fitting s (length m)
+      go : (b : Bool) → begun (run_judged s (length l) p (length m)) ≡ b → 0 < cond b (min (length l / s.count) (frames_left s)) 0 → Fitting s (length m)
       go true e less = fitting s (length m) (run_begins s (length l) p (length m) e).good
       go false e less = absurd (omega (arith, less))
 

@@ -6,7 +6,7 @@ use Rattle.common_types.specs.declared.Params.{Params}
 use Rattle.sampler.specs.declared.Sampler.{Sampler}
 use Rattle.sampler.specs.Samplers.{channel_stepped_of, output_of, memory_at, Framed, framed, entry_of, entries_of, frames_of}
 use Rattle.sampler.proofs.Running.{behind}
-use Rattle.lent_sampler.specs.Numbers.{run_seat}
+use Rattle.lent_sampler.specs.Runs.{run_seat}
 
 module _ (p : Params) where
   -- entry i, of channel j

@@ -10,35 +10,37 @@ use Rattle.channel.specs.Channels.{channel_of, memory_of}
 use Rattle.channel.specs.Channels.{process_sample_of as channel_sample_of}
 use Rattle.sampler.specs.declared.Sampler.{Sampler}
 use Rattle.sampler.specs.declared.SampleAnswer.{SampleAnswer}
-use Rattle.sampler.specs.Refusals.{channel_at, sample_number}
+use Rattle.std.specs.Prelude.{Result, Ok, Err, is_ok}
+use Rattle.refusals.specs.declared.Refusal.{Refusal}
+use Rattle.refusals.specs.Refusals.{code_of}
+use Rattle.sampler.specs.Refusals.{channel_at, sample_judged}
 use Rattle.sampler.specs.Samplers.{with_channels, channel_stepped_of, output_of, moved_at, memory_at, process_sample_of, sample_memory}
 use Rattle.sampler.proofs.Rows.{sample_ready}
 use Rattle.sampler.proofs.Seats.{none}
 use Rattle.sampler.proofs.Parts.{stepped_is, output-is, moved_is, memory_is}
 use Rattle.lent_channel.specs.declared.Heard.{Heard}
 use Rattle.lent_channel.specs.Turns.{heard_of}
-use Rattle.lent_sampler.specs.declared.Sampled.{Sampled}
-use Rattle.lent_sampler.specs.Hearing.{at_volume}
+use Rattle.lent_sampler.specs.Hearing.{at_volume, done_in, heard_in}
 
 -- what the call leaves
-abbrev pub Leaves : Sampler → ℕ → Float → Params → List ℕ → Sampled → Sampler → List ℕ → Type 0
-Leaves s j x p m r t k = (record { sampler = t; output = r.output; number = r.number; moved = r.moved } ≡ process_sample_of s j x p m) × (k ≡ sample_memory s j x p m)
+abbrev pub Leaves : Sampler → ℕ → Float → Params → List ℕ → Result Heard Refusal → Sampler → List ℕ → Type 0
+Leaves s j x p m r t k =
+    (record { sampler = t; output = (heard_in r).output; done = done_in r; moved = (heard_in r).moved } ≡ process_sample_of s j x p m)
+    × (k ≡ sample_memory s j x p m)
 
 module _ (s : Sampler) (j : ℕ) (x : Float) (p : Params) (m : List ℕ) where
-  abbrev number : ℕ
-  number = sample_number s j p (length m)
+  abbrev answer : Result (Unit {0}) Refusal → SampleAnswer
+  answer d = record { sampler = cond (is_ok d) (channel_stepped_of s j p x m) s; output = cond (is_ok d) (output_of s j p x m) zero32; done = d; moved = cond (is_ok d) (moved_at s j p x m) 0 }
 
-  abbrev answer : Bool → SampleAnswer
-  answer b = record { sampler = cond b (channel_stepped_of s j p x m) s; output = cond b (output_of s j p x m) zero32; number = number; moved = cond b (moved_at s j p x m) 0 }
+  abbrev left : Result (Unit {0}) Refusal → List ℕ
+  left d = cond (is_ok d) (memory_at s j x m) m
 
-  pub is_refused : (number ≡ 0 → ⊥) → Leaves s j x p m (record { output = zero32; number = number; moved = 0 }) s m
+  pub is_refused : (f : Refusal) → sample_judged s j p (length m) ≡ Err f → Leaves s j x p m (Err f) s m
   unfolding process_sample_of sample_memory
-  is_refused h =
-      let e = ne_eqb number 0 h in
-      (sym (ap answer e), sym (ap (λ (b : Bool). cond b (memory_at s j x m) m) e))
+  is_refused f e = (sym (ap answer e), sym (ap left e))
 
   -- the sample on the part, which begins at a
-  module _ (accepted : number ≡ 0) (a : ℕ) (starts : a ≡ j * s.capacity) where
+  module _ (accepted : sample_judged s j p (length m) ≡ Ok tt) (a : ℕ) (starts : a ≡ j * s.capacity) where
     abbrev e : ℕ
     e = a + s.capacity
 
@@ -48,20 +50,19 @@ module _ (s : Sampler) (j : ℕ) (x : Float) (p : Params) (m : List ℕ) where
     abbrev played : Played
     played = channel_sample_of p x (channel_at s j) part
 
-    pub is_played : Leaves s j x p m (record { output = mul binary32 p.volume played.output; number = 0; moved = played.moved }) (with_channels (set s.channels j played.channel) s)
+    pub is_played : Leaves s j x p m (Ok (record { output = mul binary32 p.volume played.output; moved = played.moved })) (with_channels (set s.channels j played.channel) s)
         (take a m ++ (memory_of x (channel_at s j) part ++ drop (e - a) (drop a m)))
     unfolding process_sample_of sample_memory
     is_played =
-        let is = eq-eqb number 0 accepted in
         let stepped = stepped_is s j a e m starts refl p x (channel_at s j) refl played refl in
         let output = output-is s j a e m starts refl p x (channel_at s j) refl played refl in
         let moved = moved_is s j a e m starts refl p x (channel_at s j) refl played refl in
-        ((λ i. record { sampler = stepped i; output = output i; number = sym accepted i; moved = moved i }) ∙ sym (ap answer is), memory_is s j a e m starts refl x (channel_at s j) _ refl refl ∙ sym (ap (λ (b : Bool). cond b (memory_at s j x m) m) is))
+        ((λ i. record { sampler = stepped i; output = output i; done = Ok tt; moved = moved i }) ∙ sym (ap answer accepted), memory_is s j a e m starts refl x (channel_at s j) _ refl refl ∙ sym (ap left accepted))
 
     -- the channel is one of the two, and its part is there
     pub sample_low : (j < 2) × (a + s.capacity ≤ length m)
     sample_low =
-        let r = sample_ready s j p (length m) accepted in
+        let r = sample_ready s j p (length m) (ap code_of accepted) in
         (r.below, subst (λ (n : ℕ). n + s.capacity ≤ length m) (sym starts) r.part)
 
     -- the same as the code has it, which reads the channel where it stands
@@ -74,9 +75,9 @@ module _ (s : Sampler) (j : ℕ) (x : Float) (p : Params) (m : List ℕ) where
 
       pub sample_so : r ≡ at_volume p (heard_of (channel_sample_of p x c part)) → d ≡ (channel_sample_of p x c part).channel
           → k ≡ take a m ++ (memory_of x c part ++ drop (e - a) (drop a m))
-          → Leaves s j x p m (record { output = r.output; number = 0; moved = r.moved }) (with_channels (set s.channels j d) s) k
+          → Leaves s j x p m (Ok r) (with_channels (set s.channels j d) s) k
       sample_so gives becomes leaves =
           let is_r : r ≡ at_volume p (heard_of played) = gives ∙ ap (λ (b : Channel). at_volume p (heard_of (channel_sample_of p x b part))) c_is in
           let is_d : d ≡ played.channel = becomes ∙ ap (λ (b : Channel). (channel_sample_of p x b part).channel) c_is in
           let is_k = leaves ∙ ap (λ (b : Channel). take a m ++ (memory_of x b part ++ drop (e - a) (drop a m))) c_is in
-          ((λ q. record { sampler = with_channels (set s.channels j (is_d q)) s; output = (is_r q).output; number = 0; moved = (is_r q).moved }) ∙ is_played.0, is_k ∙ is_played.1)
+          ((λ q. record { sampler = with_channels (set s.channels j (is_d q)) s; output = (is_r q).output; done = Ok tt; moved = (is_r q).moved }) ∙ is_played.0, is_k ∙ is_played.1)

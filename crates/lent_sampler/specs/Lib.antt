@@ -1,4 +1,3 @@
-pub mod Numbers
 pub mod Hearing
 pub mod Lists
-pub mod Loads
+pub mod Runs

@@ -3,7 +3,8 @@
 // question answered, and no channel is copied.
 #![tactic(auto)]
 
-ghost use Rattle.std.specs.Prelude.{◌≡◌, ◌+◌, ◌-◌, ◌*◌, ◌%◌, ◌^◌, ◌<◌, ◌≤◌, true, [], ◌∷◌, ◌++◌, length, take, drop, if◌then◌else◌, nat_eq, min, slice_range};
+ghost use Rattle.std.specs.Prelude.{Ok, ◌≡◌, ◌-◌, ◌≤◌, ◌++◌, length, take, drop, slice_range};
+ghost use Rattle.std.specs.List.{list_all};
 ghost use Rattle.sampler.specs.Samplers.{
   start_playing_of,
   stop_playing_of,
@@ -16,6 +17,7 @@ ghost use Rattle.sampler.specs.Samplers.{
   gather_of,
   gather_memory,
   reset_of,
+  each_of,
   change_of,
   sample_memory,
   Frames,
@@ -26,20 +28,18 @@ ghost use Rattle.sampler.specs.Samplers.{
 };
 ghost use Rattle.sampler.specs.Samplers.{process_sample_of as sample_of};
 ghost use Rattle.sampler.specs.Refusals.{
+  present,
   channel_at,
-  change_rows,
-  change_number,
-  gather_number,
-  sample_number,
-  frame_rows,
-  frame_number,
-  run_done,
+  good_sampler,
+  good_with,
+  against_any,
+  change_judged,
+  gather_judged,
+  sample_judged,
+  frame_judged,
+  question_rows,
 };
-ghost use Rattle.channel.specs.Channels.{live, process_sample_of, memory_of};
-ghost use Rattle.binary32.specs.Leaves.{zero32};
-ghost use Rattle.binary32.specs.Leaves.{as_float};
-ghost use Rattle.common_types.specs.Notes.{into_u64_of};
-ghost use Rattle.common_types.specs.Settings.{loop_length_of};
+ghost use Rattle.channel.specs.Channels.{good_channel, process_sample_of, memory_of};
 ghost use Rattle.questions.specs.Questions.{
   get_frames_processed_of,
   get_data_len_of,
@@ -49,195 +49,118 @@ ghost use Rattle.questions.specs.Questions.{
   error_text_after,
   iter_active_notes_of,
   active_notes_after,
-  voice_info_of,
+  figures_of,
 };
 ghost use Rattle.questions.specs.Sights.{seen_of};
 ghost use Rattle.questions.specs.Waveforms.{get_waveform_summary_of, waveform_after};
 ghost use Rattle.recordings.specs.Waves.{write_wave_of, wave_after, read_wave_of, read_memory};
 ghost use Rattle.recordings.specs.Sights.{survey_of};
-ghost use Rattle.lent_sampler.specs.Loads.{load_of};
 ghost use Rattle.questions.specs.Lists.{voice_info_counted, voice_info_after};
 ghost use Rattle.lent_channel.specs.Turns.{heard_of};
-ghost use Rattle.lent_sampler.specs.Numbers.{
-  all_of,
-  any_of,
-  readings_of,
-  good_by,
-  seen_by,
-  good_with_by,
-  asked_by,
-  asking_of,
-  gather_rows,
-  clock_in,
-  sample_rows,
-  frame_asked_by,
-  framing,
-  latest_time,
-  room_left,
-  run_asked_by,
-  running,
-  run_seat,
-};
-ghost use Rattle.lent_sampler.specs.Hearing.{at_volume};
+ghost use Rattle.lent_sampler.specs.Runs.{run_seat};
+ghost use Rattle.lent_sampler.specs.Hearing.{at_volume, done_in, heard_in, moved_in};
 ghost use Rattle.lent_sampler.specs.Lists.{
-  seat_of,
   seated,
-  voice_place,
-  voice_in,
-  unlisted,
-  count_in,
-  listing_by,
-  answered_of,
+  unfinished,
   phrase_length,
-  info_in,
 };
 
-use channel::{Against, Change, Channel, Head, HeadChange};
+use channel::{Against, Ask, Change, Channel, HeadChange};
 use common_types::{Note, Params};
 use lent_channel::{Asking, Heard};
-use phrases::Beside;
-use questions::{Counted, OffsetAnswer, Seen, Told, VoiceInfo, WaveformSummary};
-use recordings::{Loading, Surveyed, WaveRead};
+use questions::{Seen, VoiceInfo, WaveformSummary};
+use recordings::Surveyed;
+use refusals::Refusal;
 use sampler::{Asked, FrameAsked, Ran, RunAsked, Sampler};
 use voice::Voice;
 
-// Of two answers, the first n: whether all hold, and whether one does.
-fn all_of(n: usize, first: bool, second: bool) -> bool
-    ensures { result ≡ all_of n (first ∷ second ∷ []) }
+fn good_channels(s: &Sampler) -> bool
+    ensures { result ≡ list_all (good_channel s.now.capacity) (present s.now) }
 {
-    if n == 0 {
-        return true;
-    }
-    if n == 1 {
-        return first;
-    }
-    first & second
+    s.present()
+        .iter()
+        .all(|c| lent_channel::good(c, s.capacity))
 }
 
-fn any_of(n: usize, first: bool, second: bool) -> bool
-    ensures { result ≡ any_of n (first ∷ second ∷ []) }
+// Whether the record is good.
+#[tactic(auto, unfolding(sampler::specs::Refusals::good_sampler))]
+fn good(s: &Sampler) -> bool
+    ensures { result ≡ good_sampler s.now }
 {
-    if n == 0 {
-        return false;
-    }
-    if n == 1 {
-        return first;
-    }
-    first | second
+    sampler::good_sizes(s.count, s.capacity) && good_channels(s)
 }
 
-// What is read of a record before a call: what it says of itself, whether each of its two channels is good, and their
-// clocks.
-#[derive(Clone, Copy)]
-struct Readings {
-    count: usize,
-    capacity: usize,
-    first: bool,
-    second: bool,
-    time: usize,
-    other: usize,
-}
-
-fn read_of(
-    count: usize,
-    capacity: usize,
-    first: bool,
-    second: bool,
-    time: usize,
-    other: usize,
-) -> Readings
-    ensures { result ≡ readings_of count capacity first second time other }
+// Whether record and memory are good.
+#[tactic(auto, unfolding(sampler::specs::Refusals::good_with))]
+fn good_with(s: &Sampler, size: usize) -> bool
+    ensures { result ≡ good_with s.now size }
 {
-    Readings {
-        count,
-        capacity,
-        first,
-        second,
-        time,
-        other,
-    }
+    good(s) && sampler::enough(s.count, s.capacity, size)
 }
 
-// Whether the record is good, by whether its channels are.
-fn good(count: usize, capacity: usize, first: bool, second: bool) -> bool
-    ensures { result ≡ good_by count capacity first second }
-{
-    sampler::good_sizes(count, capacity) & all_of(count, first, second)
-}
-
-fn seen_of(count: usize, capacity: usize, first: bool, second: bool, one: Head, other: Head) -> Seen
-    ensures { result ≡ seen_by count capacity first second one other }
-{
-    Seen {
-        good: good(count, capacity, first, second),
-        count,
-        capacity,
-        first: one,
-        second: other,
-    }
-}
-
-// What is read of a record before a call, with no channel copied.
+// What is read of a record before a question, with no channel copied.
 fn look(s: &Sampler) -> Seen
     ensures seen { result ≡ seen_of s.now }
     ensures two { length s.now.channels ≡ 2 }
 {
-    let capacity = s.capacity;
-    let first = lent_channel::good(&s.channels[0], capacity);
-    let second = lent_channel::good(&s.channels[1], capacity);
-    let one = s.channels[0].head;
-    let other = s.channels[1].head;
-    seen_of(s.count, capacity, first, second, one, other)
-}
-
-// The number of a change, from whether the record is good and what each channel has against it.
-fn change_of(good: bool, count: usize, one: Against, other: Against, change: Change) -> u8
-    ensures { result ≡ change_rows (asked_by good count one other) change }
-{
-    let against = Against {
-        blocked: any_of(count, one.blocked, other.blocked),
-        short: any_of(count, one.short, other.short),
-    };
-    let asked = Asked { good, against };
-    sampler::change_rows(asked, change)
-}
-
-fn asking_of(change: Change, capacity: usize) -> Asking
-    ensures { result ≡ asking_of change capacity }
-{
-    Asking {
-        ask: channel::asks(change),
-        capacity,
+    Seen {
+        good: good(s),
+        count: s.count,
+        capacity: s.capacity,
+        first: s.channels[0].head,
+        second: s.channels[1].head,
     }
 }
 
-// The number of a change, with no channel copied.
-fn change_number(s: &Sampler, change: Change) -> u8
-    ensures { result ≡ change_number s.now change }
+// What the channels in use have against what a change asks.
+#[tactic(auto, unfolding(sampler::specs::Refusals::against_any))]
+fn against(s: &Sampler, ask: Ask) -> Against
+    ensures { result ≡ against_any ask s.now }
 {
-    let capacity = s.capacity;
-    let first = lent_channel::good(&s.channels[0], capacity);
-    let second = lent_channel::good(&s.channels[1], capacity);
-    let asking = asking_of(change, capacity);
-    let one = lent_channel::against(&s.channels[0], asking);
-    let other = lent_channel::against(&s.channels[1], asking);
-    let good = good(s.count, capacity, first, second);
-    change_of(good, s.count, one, other, change)
+    let asking = Asking {
+        ask,
+        capacity: s.capacity,
+    };
+    let mut blocked = false;
+    let mut short = false;
+    for c in s.present() {
+        let a = lent_channel::against(c, asking);
+        blocked = blocked | a.blocked;
+        short = short | a.short;
+    }
+    Against { blocked, short }
+}
+
+// Whether a change is refused, with no channel copied.
+fn change_judged(s: &Sampler, change: Change) -> Result<(), Refusal>
+    ensures { result ≡ change_judged s.now change }
+{
+    let asked = Asked {
+        good: good(s),
+        against: against(s, channel::asks(change)),
+    };
+    sampler::change_rows(asked, change)
+}
+
+// Makes a change of each channel in use.
+fn each(s: &mut Sampler, change: Change)
+    ensures { s.new ≡ each_of change s.old }
+{
+    let n = s.count.min(2);
+    for j in 0..n {
+        lent_changes::change(&mut s.channels[j], change);
+    }
 }
 
 // The call that makes a change of every channel, all or none, where the record stands. The names below are it, each at
 // the change that a function makes of the name's arguments.
-pub fn change(s: &mut Sampler, change: Change) -> u8
-    ensures { record { sampler = s.new; number = result } ≡ change_of s.old change }
+#[tactic(auto, unfolding(sampler::specs::Samplers::answer_of))]
+pub fn change(s: &mut Sampler, change: Change) -> Result<(), Refusal>
+    ensures { record { sampler = s.new; done = result } ≡ change_of s.old change }
 {
-    let number = change_number(s, change);
-    let n = steps(number, sampler::places(s.count));
-    let mut j: usize = 0;
-    while j < n {
-        lent_changes::change(&mut s.channels[j], change);
-        j = j + 1;
-    }
-    number
+    change_judged(s, change)?;
+    each(s, change);
+    Ok(())
 }
 
 pub fn start_of(position: f32, note: Note, velocity: f32, params: Params) -> Change
@@ -308,270 +231,160 @@ pub fn start_playing(
     note: Note,
     velocity: f32,
     params: Params,
-) -> u8
-    ensures { record { sampler = s.new; number = result }
+) -> Result<(), Refusal>
+    ensures { record { sampler = s.new; done = result }
         ≡ start_playing_of s.old position note velocity params }
 {
     change(s, start_of(position, note, velocity, params))
 }
 
-pub fn stop_playing(s: &mut Sampler, note: Note, params: Params) -> u8
-    ensures { record { sampler = s.new; number = result } ≡ stop_playing_of s.old note params }
+pub fn stop_playing(s: &mut Sampler, note: Note, params: Params) -> Result<(), Refusal>
+    ensures { record { sampler = s.new; done = result } ≡ stop_playing_of s.old note params }
 {
     change(s, stop_of(note, params))
 }
 
-pub fn set_note_speed(s: &mut Sampler, note: Note, speed: f32) -> u8
-    ensures { record { sampler = s.new; number = result } ≡ set_note_speed_of s.old note speed }
+pub fn set_note_speed(s: &mut Sampler, note: Note, speed: f32) -> Result<(), Refusal>
+    ensures { record { sampler = s.new; done = result } ≡ set_note_speed_of s.old note speed }
 {
     change(s, speed_of(note, speed))
 }
 
-pub fn start_recording(s: &mut Sampler) -> u8
-    ensures { record { sampler = s.new; number = result } ≡ start_recording_of s.old }
+pub fn start_recording(s: &mut Sampler) -> Result<(), Refusal>
+    ensures { record { sampler = s.new; done = result } ≡ start_recording_of s.old }
 {
     change(s, recording_started())
 }
 
-pub fn stop_recording(s: &mut Sampler) -> u8
-    ensures { record { sampler = s.new; number = result } ≡ stop_recording_of s.old }
+pub fn stop_recording(s: &mut Sampler) -> Result<(), Refusal>
+    ensures { record { sampler = s.new; done = result } ≡ stop_recording_of s.old }
 {
     change(s, recording_stopped())
 }
 
 // 7/12's setting, of every channel.
-pub fn set_interpolation(s: &mut Sampler, on: bool) -> u8
-    ensures { record { sampler = s.new; number = result } ≡ set_interpolation_of s.old on }
+pub fn set_interpolation(s: &mut Sampler, on: bool) -> Result<(), Refusal>
+    ensures { record { sampler = s.new; done = result } ≡ set_interpolation_of s.old on }
 {
     change(s, interpolation_set(on))
 }
 
 // The phrase of that number is recorded and started from here on.
-pub fn choose_phrase(s: &mut Sampler, phrase: u8) -> u8
-    ensures { record { sampler = s.new; number = result } ≡ choose_phrase_of s.old phrase }
+pub fn choose_phrase(s: &mut Sampler, phrase: u8) -> Result<(), Refusal>
+    ensures { record { sampler = s.new; done = result } ≡ choose_phrase_of s.old phrase }
 {
     change(s, phrase_chosen(phrase))
 }
 
 // Empties a phrase that nothing uses.
-pub fn delete_phrase(s: &mut Sampler, phrase: u8) -> u8
-    ensures { record { sampler = s.new; number = result } ≡ delete_phrase_of s.old phrase }
+pub fn delete_phrase(s: &mut Sampler, phrase: u8) -> Result<(), Refusal>
+    ensures { record { sampler = s.new; done = result } ≡ delete_phrase_of s.old phrase }
 {
     change(s, phrase_deleted(phrase))
 }
 
-pub fn reset(s: &mut Sampler) -> u8
-    ensures { record { sampler = s.new; number = result } ≡ reset_of s.old }
+pub fn reset(s: &mut Sampler) -> Result<(), Refusal>
+    ensures { record { sampler = s.new; done = result } ≡ reset_of s.old }
 {
     change(s, all_reset())
 }
 
-// The number of a gather, from what is read of the record.
-fn gather_rows(t: Seen, size: usize) -> u8
-    ensures { result ≡ gather_rows t size }
+// Whether a gather is refused, with no channel copied.
+#[tactic(auto, unfolding(sampler::specs::Refusals::gather_judged))]
+fn gather_judged(s: &Sampler, size: usize) -> Result<(), Refusal>
+    ensures { result ≡ gather_judged s.now size }
 {
-    let one = t.first;
-    let other = t.second;
-    let recording = any_of(t.count, one.is_recording(), other.is_recording());
-    let busy = sampler::first_of(recording, 21, 0);
-    let whole = t.good & sampler::enough(t.count, t.capacity, size);
-    sampler::first_of(!whole, 9, busy)
-}
-
-// The number of a gather, with no channel copied.
-fn gather_asked(s: &Sampler, size: usize) -> u8
-    ensures { result ≡ gather_number s.now size }
-{
-    gather_rows(look(s), size)
+    Refusal::Broken.when(!good_with(s, size))?;
+    Refusal::PhraseRecording.when(s.any_recording())
 }
 
 // Moves the phrases of each channel down, so that all free room of its part is behind them.
-pub fn gather(s: &mut Sampler, memory: &mut [u32]) -> u8
-    ensures { (record { sampler = s.new; number = result } ≡ gather_of s.old memory.old)
+pub fn gather(s: &mut Sampler, memory: &mut [u32]) -> Result<(), Refusal>
+    ensures { (record { sampler = s.new; done = result } ≡ gather_of s.old memory.old)
         × (memory.new ≡ gather_memory s.old memory.old) }
 {
-    let number = gather_asked(s, memory.len());
-    let n = steps(number, sampler::places(s.count));
+    gather_judged(s, memory.len())?;
     let capacity = s.capacity;
-    let mut j: usize = 0;
-    while j < n {
+    for j in 0..s.count {
         let start = sampler::part_start(j, capacity);
         let end = start + capacity;
         lent_changes::gather(&mut s.channels[j], memory, start, end);
-        j = j + 1;
     }
-    number
+    Ok(())
 }
 
-pub fn get_frames_processed(s: &Sampler, channel: usize) -> Counted
+pub fn get_frames_processed(s: &Sampler, channel: usize) -> Result<usize, Refusal>
     ensures { result ≡ get_frames_processed_of s.now channel }
 {
     questions::frames_in(look(s), channel)
 }
 
-pub fn get_data_len(s: &Sampler, channel: usize) -> Counted
+pub fn get_data_len(s: &Sampler, channel: usize) -> Result<usize, Refusal>
     ensures { result ≡ get_data_len_of s.now channel }
 {
     questions::length_in(look(s), channel)
 }
 
-pub fn is_recording(s: &Sampler, channel: usize) -> Told
+pub fn is_recording(s: &Sampler, channel: usize) -> Result<bool, Refusal>
     ensures { result ≡ is_recording_of s.now channel }
 {
     questions::recording_in(look(s), channel)
 }
 
-pub fn get_last_recorded_offset(s: &Sampler, channel: usize) -> OffsetAnswer
+pub fn get_last_recorded_offset(s: &Sampler, channel: usize) -> Result<Option<usize>, Refusal>
     ensures { result ≡ get_last_recorded_offset_of s.now channel }
 {
     questions::offset_in(look(s), channel)
 }
 
-pub fn print_error_info(s: &Sampler, channel: usize, text: &mut [u8]) -> Counted
+pub fn print_error_info(s: &Sampler, channel: usize, text: &mut [u8]) -> Result<usize, Refusal>
     ensures { (result ≡ print_error_info_of s.now channel (length text.old))
         × (text.new ≡ error_text_after s.now channel text.old) }
 {
     questions::error_in(look(s), channel, text)
 }
 
-// Of the two channels the asked one.
-fn seat(channel: usize) -> usize
-    ensures { result ≡ seat_of channel }
+// The asked one of the two channels; past the last it is the first, which no answer shows.
+fn seated(s: &Sampler, channel: usize) -> &Channel
+    ensures asked { result.now ≡ seated s.now channel }
+    ensures whole { length (seated s.now channel).voices ≡ 32 }
 {
-    if channel == 1 { 1 } else { 0 }
+    &s.channels[if channel == 1 { 1 } else { 0 }]
 }
 
-fn spot(i: usize) -> usize
-    ensures { result ≡ voice_place i }
+// How many voices are unfinished.
+#[tactic(auto, unfolding(crate::specs::Lists::unfinished))]
+fn unfinished(c: &Channel) -> usize
+    ensures { result ≡ unfinished c.now }
 {
-    if i < 32 { i } else { 0 }
+    c.live().iter().filter(|v| !v.finished).count()
 }
 
-// The voice at that place: it alone is copied.
-fn voice_of(c: &Channel, i: usize) -> Voice
-    ensures { result ≡ voice_in i c.now }
+// The rows that each question of a channel begins with.
+fn rows(s: &Sampler, channel: usize) -> Result<(), Refusal>
+    ensures { result ≡ question_rows s.now channel (Ok tt) }
 {
-    let k = spot(i);
-    c.voices[k]
-}
-
-fn voice_at(s: &Sampler, channel: usize, i: usize) -> Voice
-    ensures { result ≡ voice_in i (seated s.now channel) }
-{
-    let j = seat(channel);
-    voice_of(&s.channels[j], i)
-}
-
-// How many voices are listed so far, with one more: at most 32, far from where a word wraps.
-fn listed_next(n: usize, v: Voice, all: bool) -> usize
-    ensures { result ≡ (if unlisted all v then n else (n + 1) % 2 ^ 64) }
-{
-    if all | !v.finished {
-        std::num::wrapping_add_usize(n, 1)
-    } else {
-        n
-    }
-}
-
-// How many voices are listed: all, or those that aren't finished.
-fn count_of(c: &Channel, all: bool) -> usize
-    ensures counted { result ≡ count_in all c.now }
-    ensures whole { length (live c.now) ≡ min c.now.count 32 }
-{
-    let n = channel::places(c.count);
-    let mut k: usize = 0;
-    let mut i: usize = 0;
-    while i < n {
-        k = listed_next(k, c.voices[i], all);
-        i = i + 1;
-    }
-    k
-}
-
-fn count_at(s: &Sampler, channel: usize, all: bool) -> usize
-    ensures counted { result ≡ count_in all (seated s.now channel) }
-    ensures whole { length (live (seated s.now channel)) ≡ min (seated s.now channel).count 32 }
-{
-    let j = seat(channel);
-    count_of(&s.channels[j], all)
-}
-
-// What is asked before a list is written: how many voices are looked at, how many entries it has, and its number.
-#[derive(Clone, Copy)]
-struct Listing {
-    turns: usize,
-    count: usize,
-    number: u8,
-}
-
-fn listing_of(
-    t: Seen,
-    channel: usize,
-    beyond: bool,
-    turns: usize,
-    count: usize,
-    room: usize,
-) -> Listing
-    ensures { result ≡ listing_by t channel beyond turns count room }
-{
-    let short = sampler::first_of(room < count, 8, 0);
-    let outside = sampler::first_of(beyond, 4, short);
-    let absent = sampler::first_of(!(channel < t.count), 1, outside);
-    let number = sampler::first_of(!t.good, 9, absent);
-    Listing {
-        turns: steps(number, turns),
-        count,
-        number,
-    }
-}
-
-// What is asked of a list of voices, or of those that aren't finished, with no channel copied.
-fn list_asked(s: &Sampler, channel: usize, beyond: bool, all: bool, room: usize) -> Listing
-    ensures asked { result ≡ listing_by (seen_of s.now) channel beyond
-        (count_in true (seated s.now channel)) (count_in all (seated s.now channel)) room }
-    ensures whole { length (live (seated s.now channel)) ≡ min (seated s.now channel).count 32 }
-{
-    let t = look(s);
-    let turns = count_at(s, channel, true);
-    let count = count_at(s, channel, all);
-    listing_of(t, channel, beyond, turns, count, room)
-}
-
-fn listed(a: Listing) -> Counted
-    ensures { result ≡ answered_of a }
-{
-    if a.number == 0 {
-        Counted::Done(a.count)
-    } else {
-        Counted::Refused(a.number)
-    }
-}
-
-fn packed(v: Voice) -> u64
-    ensures { result ≡ into_u64_of v.note }
-{
-    let note = v.note;
-    note.into_u64()
+    Refusal::Broken.when(!good(s))?;
+    Refusal::NoChannel.when(!(channel < s.count))
 }
 
 // Writes the notes of the unfinished voices to the front of the list.
-pub fn iter_active_notes(s: &Sampler, channel: usize, notes: &mut [u64]) -> Counted
+pub fn iter_active_notes(s: &Sampler, channel: usize, notes: &mut [u64]) -> Result<usize, Refusal>
     ensures { (result ≡ iter_active_notes_of s.now channel (length notes.old))
         × (notes.new ≡ active_notes_after s.now channel notes.old) }
 {
-    let asked = list_asked(s, channel, false, false, notes.len());
-    let n = asked.turns;
-    let mut k: usize = 0;
-    let mut i: usize = 0;
-    while i < n {
-        let v = voice_at(s, channel, i);
+    rows(s, channel)?;
+    let c = seated(s, channel);
+    let count = unfinished(c);
+    Refusal::ShortList.when(notes.len() < count)?;
+    let mut k = 0;
+    for v in c.live() {
         if !v.finished {
-            notes[k] = packed(v);
+            notes[k] = u64::from(v.note);
+            k += 1;
         }
-        k = listed_next(k, v, false);
-        i = i + 1;
     }
-    listed(asked)
+    Ok(count)
 }
 
 // How long the phrase of that number is.
@@ -584,28 +397,12 @@ fn length_of(c: &Channel, k: u8) -> usize
     phrase.length
 }
 
-fn length_at(s: &Sampler, channel: usize, k: u8) -> usize
-    ensures { result ≡ phrase_length k (seated s.now channel) }
-{
-    let j = seat(channel);
-    length_of(&s.channels[j], k)
-}
-
-fn info_of(v: Voice, params: Params, whole: usize, own: usize) -> VoiceInfo
-    ensures { result ≡ voice_info_of (loop_length_of params whole) (as_float own) v }
-{
-    let length = params.loop_length(whole);
-    questions::voice_info(v, length, binary32::usize_to_f32(own))
-}
-
 // The figures of a voice, by its phrase; the loop length by channel 0's phrase of that number.
-fn info_at(s: &Sampler, channel: usize, params: Params, i: usize) -> VoiceInfo
-    ensures { result ≡ info_in params i s.now channel }
+fn info(params: Params, first: &Channel, c: &Channel, v: Voice) -> VoiceInfo
+    ensures { result ≡ figures_of params first.now c.now v }
 {
-    let v = voice_at(s, channel, i);
-    let whole = length_at(s, 0, v.phrase);
-    let own = length_at(s, channel, v.phrase);
-    info_of(v, params, whole, own)
+    let length = params.loop_length(length_of(first, v.phrase));
+    questions::voice_info(v, length, binary32::usize_to_f32(length_of(c, v.phrase)))
 }
 
 // Writes the figures of each voice to the front of the list.
@@ -614,19 +411,18 @@ pub fn get_voice_info(
     channel: usize,
     params: Params,
     list: &mut [VoiceInfo],
-) -> Counted
+) -> Result<usize, Refusal>
     ensures { (result ≡ voice_info_counted s.now channel params list.old)
         × (list.new ≡ voice_info_after s.now channel params list.old) }
 {
-    let beyond = params.beyond_limits();
-    let asked = list_asked(s, channel, beyond, true, list.len());
-    let n = asked.turns;
-    let mut i: usize = 0;
-    while i < n {
-        list[i] = info_at(s, channel, params, i);
-        i = i + 1;
+    rows(s, channel)?;
+    Refusal::BeyondLimits.when(params.beyond_limits())?;
+    let c = seated(s, channel);
+    Refusal::ShortList.when(list.len() < c.count)?;
+    for (i, v) in c.live().iter().enumerate() {
+        list[i] = info(params, seated(s, 0), c, *v);
     }
-    listed(asked)
+    Ok(c.count)
 }
 
 // Writes a value for each column of channel 0's recording to the front of the list.
@@ -635,7 +431,7 @@ pub fn get_waveform_summary(
     columns: usize,
     list: &mut [f32],
     memory: &[u32],
-) -> WaveformSummary
+) -> Result<WaveformSummary, Refusal>
     ensures { (result
         ≡ get_waveform_summary_of s.now columns (length list.old) memory.now)
         × (list.new ≡ waveform_after s.now columns list.old memory.now) }
@@ -644,21 +440,11 @@ pub fn get_waveform_summary(
 }
 
 // Writes the recordings of all channels as a WAVE file to the front of `out`, and answers how many bytes it has.
-pub fn write_wave(s: &Sampler, rate: u32, memory: &[u32], out: &mut [u8]) -> Counted
+pub fn write_wave(s: &Sampler, rate: u32, memory: &[u32], out: &mut [u8]) -> Result<usize, Refusal>
     ensures { (result ≡ write_wave_of s.now (length out.old) (length memory.now))
         × (out.new ≡ wave_after s.now rate memory.now out.old) }
 {
     recordings::write_in(look(s), rate, memory, out)
-}
-
-fn surveyed(seen: Seen, first: Beside, second: Beside) -> Surveyed
-    ensures { result ≡ record { seen = seen; first = first; second = second } }
-{
-    Surveyed {
-        seen,
-        first,
-        second,
-    }
 }
 
 // What a read asks of a record, with no channel copied.
@@ -667,207 +453,68 @@ fn survey(s: &Sampler) -> Surveyed
     ensures two { length s.now.channels ≡ 2 }
     ensures eight { length (channel_at s.now 1).table ≡ 8 }
 {
-    let seen = look(s);
-    let capacity = s.capacity;
-    let first = lent_channel::beside(&s.channels[0], capacity);
-    let second = lent_channel::beside(&s.channels[1], capacity);
-    surveyed(seen, first, second)
-}
-
-// The change that a read makes. Where it is refused that is one which every record refuses, so that a read is one shape.
-fn load_of(r: Loading) -> Change
-    ensures { result ≡ load_of r }
-{
-    let read = r.read;
-    if read.number == 0 {
-        return Change::Head(HeadChange::Load(r.samples));
+    Surveyed {
+        seen: look(s),
+        first: lent_channel::beside(&s.channels[0], s.capacity),
+        second: lent_channel::beside(&s.channels[1], s.capacity),
     }
-    Change::Head(HeadChange::Choose(8))
 }
 
-fn answer_of(r: Loading) -> WaveRead
-    ensures { result ≡ r.read }
-{
-    r.read
-}
-
-fn settle(s: &mut Sampler, r: Loading) -> u8
-    ensures { record { sampler = s.new; number = result } ≡ change_of s.old (load_of r) }
-{
-    change(s, load_of(r))
-}
-
-// Replaces the recording of each channel by a WAVE file's.
-pub fn read_wave(s: &mut Sampler, file: &[u8], memory: &mut [u32]) -> WaveRead
+// Replaces the recording of each channel by a WAVE file's, and answers the file's rate.
+pub fn read_wave(s: &mut Sampler, file: &[u8], memory: &mut [u32]) -> Result<u32, Refusal>
     ensures { (record { sampler = s.new; read = result }
         ≡ read_wave_of s.old file.now (length memory.old))
         × (memory.new ≡ read_memory s.old file.now memory.old) }
 {
-    let t = survey(s);
-    let r = recordings::read_in(t, file, memory);
-    settle(s, r);
-    answer_of(r)
+    let loading = recordings::read_in(survey(s), file, memory)?;
+    each(s, Change::Head(HeadChange::Load(loading.samples)));
+    Ok(loading.rate)
 }
 
-// How many of n turns are taken: a call that is refused takes none. A frame's are its entries, a change's its channels.
-fn steps(number: u8, n: usize) -> usize
-    ensures { result ≡ (if nat_eq number 0 then n else 0) }
+// Whether a sample of that channel is refused, with no channel copied.
+#[tactic(auto, unfolding(sampler::specs::Refusals::sample_judged))]
+pub fn sample_judged(
+    s: &Sampler,
+    channel: usize,
+    params: Params,
+    size: usize,
+) -> Result<(), Refusal>
+    ensures { result ≡ sample_judged s.now channel params size }
 {
-    if number == 0 { n } else { 0 }
+    Refusal::Broken.when(!good_with(s, size))?;
+    Refusal::NoChannel.when(!(channel < s.count))?;
+    Refusal::BeyondLimits.when(params.beyond_limits())?;
+    Refusal::ClockEnd.when(channel::LAST_TIME <= s.channels[channel].head.now)
 }
 
-// Whether record and memory are good.
-fn good_with(t: Readings, size: usize) -> bool
-    ensures { result ≡ good_with_by t size }
+// Whether a frame is refused, with no channel copied.
+#[tactic(auto, unfolding(sampler::specs::Refusals::frame_judged))]
+pub fn frame_judged(s: &Sampler, entries: usize, params: Params, size: usize) -> Result<(), Refusal>
+    ensures { result ≡ frame_judged s.now entries params size }
 {
-    if good(t.count, t.capacity, t.first, t.second) {
-        sampler::enough(t.count, t.capacity, size)
-    } else {
-        false
-    }
-}
-
-fn time_in(t: Readings, channel: usize) -> usize
-    ensures { result ≡ clock_in t channel }
-{
-    if channel == 0 {
-        return t.time;
-    }
-    if channel == 1 { t.other } else { 0 }
-}
-
-fn sample_rows(t: Readings, channel: usize, params: Params, size: usize) -> u8
-    ensures { result ≡ sample_rows t channel params size }
-{
-    let ended = channel::LAST_TIME <= time_in(t, channel);
-    let end = sampler::first_of(ended, 6, 0);
-    let beyond = sampler::first_of(params.beyond_limits(), 4, end);
-    let absent = sampler::first_of(!(channel < t.count), 1, beyond);
-    sampler::first_of(!good_with(t, size), 9, absent)
-}
-
-// The number of a sample of that channel, with no channel copied.
-pub fn sample_asked(s: &Sampler, channel: usize, params: Params, size: usize) -> u8
-    ensures { result ≡ sample_number s.now channel params size }
-{
-    let capacity = s.capacity;
-    let first = lent_channel::good(&s.channels[0], capacity);
-    let second = lent_channel::good(&s.channels[1], capacity);
-    let time = s.channels[0].head.now;
-    let other = s.channels[1].head.now;
-    let t = read_of(s.count, capacity, first, second, time, other);
-    sample_rows(t, channel, params, size)
-}
-
-// What is asked before a frame is played: how many entries are, and its number.
-#[derive(Clone, Copy)]
-pub struct Framing {
-    pub entries: usize,
-    pub number: u8,
-}
-
-fn frame_of(t: Readings, entries: usize, params: Params, size: usize) -> Framing
-    ensures { result ≡ framing (frame_rows (frame_asked_by t entries size) entries params) entries }
-{
-    let ended = any_of(
-        entries,
-        channel::LAST_TIME <= t.time,
-        channel::LAST_TIME <= t.other,
-    );
     let asked = FrameAsked {
-        good: good_with(t, size),
-        count: t.count,
-        ended,
+        good: good_with(s, size),
+        count: s.count,
+        ended: s.any_at_end(entries),
     };
-    let number = sampler::frame_rows(asked, entries, params);
-    Framing {
-        entries: steps(number, entries),
-        number,
-    }
+    sampler::frame_rows(asked, entries, params)
 }
 
-// What is asked of a frame, with no channel copied.
-pub fn frame_asked(s: &Sampler, entries: usize, params: Params, size: usize) -> Framing
-    ensures { result ≡ framing (frame_number s.now entries params size) entries }
+// What a run answers, with no channel copied: record, memory and parameters are judged once.
+#[tactic(auto, unfolding(sampler::specs::Samplers::run_answer))]
+pub fn run_answer(s: &Sampler, entries: usize, params: Params, size: usize) -> Ran
+    ensures { result ≡ run_answer s.now entries params size }
 {
-    let capacity = s.capacity;
-    let first = lent_channel::good(&s.channels[0], capacity);
-    let second = lent_channel::good(&s.channels[1], capacity);
-    let time = s.channels[0].head.now;
-    let other = s.channels[1].head.now;
-    let t = read_of(s.count, capacity, first, second, time, other);
-    frame_of(t, entries, params, size)
-}
-
-fn latest(n: usize, time: usize, other: usize) -> usize
-    ensures { result ≡ latest_time n (time ∷ other ∷ []) }
-{
-    if n == 0 {
-        return 0;
-    }
-    if n == 1 {
-        return time;
-    }
-    if time < other { other } else { time }
-}
-
-// The frames that are left until a clock stands at its end.
-fn room(t: Readings) -> usize
-    ensures { result ≡ room_left t }
-{
-    let latest = latest(t.count, t.time, t.other);
-    if latest < channel::LAST_TIME {
-        channel::LAST_TIME - latest
-    } else {
-        0
-    }
-}
-
-// What is asked before a run is played: how many entries are, and what it answers.
-#[derive(Clone, Copy)]
-pub struct Running {
-    pub entries: usize,
-    pub ran: Ran,
-}
-
-fn run_of(t: Readings, entries: usize, params: Params, size: usize) -> Running
-    ensures { result ≡ running t.count (run_done (run_asked_by t size) entries params) }
-{
-    let room = room(t);
     let asked = RunAsked {
-        good: good_with(t, size),
-        count: t.count,
-        room,
+        good: good_with(s, size),
+        count: s.count,
+        room: s.room(),
     };
-    let ran = sampler::run_done(asked, entries, params);
-    let played = ran.frames * t.count;
-    Running {
-        entries: played,
-        ran,
-    }
+    sampler::run_done(asked, entries, params)
 }
 
-// What is asked of a run, with no channel copied: record, memory and parameters are judged once.
-pub fn run_asked(s: &Sampler, entries: usize, params: Params, size: usize) -> Running
-    ensures { result ≡ running s.now.count (run_answer s.now entries params size) }
-{
-    let capacity = s.capacity;
-    let first = lent_channel::good(&s.channels[0], capacity);
-    let second = lent_channel::good(&s.channels[1], capacity);
-    let time = s.channels[0].head.now;
-    let other = s.channels[1].head.now;
-    let t = read_of(s.count, capacity, first, second, time, other);
-    run_of(t, entries, params, size)
-}
-
-// Whose entry i is: of a frame channel i's, of a run that of its place in its frame. Both calls have one shape;
-// the first doesn't need the count.
-pub fn frame_channel(i: usize, _count: usize) -> usize
-    ensures { result ≡ i }
-{
-    i
-}
-
+// Whose entry i of a run is: that of its place in its frame.
+#[tactic(auto, unfolding(crate::specs::Runs::run_seat))]
 pub fn run_channel(i: usize, count: usize) -> usize
     ensures { result ≡ run_seat i count }
 {
@@ -907,36 +554,6 @@ fn part_sample(
     at_volume(params, heard)
 }
 
-// What a sample of one channel answers: its output, the number of document 01, and how many voices moved up as others
-// left.
-#[derive(Clone, Copy)]
-pub struct Sampled {
-    pub output: f32,
-    pub number: u8,
-    pub moved: u8,
-}
-
-// That it is refused, or what is heard.
-pub fn refused(number: u8) -> Sampled
-    ensures { result ≡ record { output = zero32; number = number; moved = 0 } }
-{
-    Sampled {
-        output: 0.0,
-        number,
-        moved: 0,
-    }
-}
-
-pub fn answered(heard: Heard) -> Sampled
-    ensures { result ≡ record { output = heard.output; number = 0; moved = heard.moved } }
-{
-    Sampled {
-        output: heard.output,
-        number: 0,
-        moved: heard.moved,
-    }
-}
-
 // A sample of one channel.
 pub fn process_sample(
     s: &mut Sampler,
@@ -944,84 +561,47 @@ pub fn process_sample(
     input: f32,
     params: Params,
     memory: &mut [u32],
-) -> Sampled
-    ensures { (record { sampler = s.new; output = result.output; number = result.number; moved = result.moved }
+) -> Result<Heard, Refusal>
+    ensures { (record {
+      sampler = s.new;
+      output = (heard_in result).output;
+      done = done_in result;
+      moved = (heard_in result).moved;
+    }
         ≡ sample_of s.old channel input params memory.old)
         × (memory.new ≡ sample_memory s.old channel input params memory.old) }
 {
-    let number = sample_asked(s, channel, params, memory.len());
-    if number != 0 {
-        return refused(number);
-    }
-    let capacity = s.capacity;
-    let start = sampler::part_start(channel, capacity);
-    let end = start + capacity;
-    let heard = part_sample(&mut s.channels[channel], params, input, memory, start, end);
-    answered(heard)
+    sample_judged(s, channel, params, memory.len())?;
+    let start = sampler::part_start(channel, s.capacity);
+    let end = start + s.capacity;
+    Ok(part_sample(&mut s.channels[channel], params, input, memory, start, end))
 }
 
-// What a frame answers: its number, and how many voices of its channels moved up.
-#[derive(Clone, Copy)]
-pub struct FrameDone {
-    pub number: u8,
-    pub moved: u8,
-}
-
-// The voices that moved up so far, with those of one entry more: at most 62, far from where a byte wraps. A run answers
-// none of them; both calls have one shape.
-pub fn frame_moved(moved: u8, heard: Heard) -> u8
-    ensures { result ≡ (moved + heard.moved) % 2 ^ 8 }
-{
-    std::num::wrapping_add_u8(moved, heard.moved)
-}
-
-pub fn run_moved(moved: u8, _heard: Heard) -> u8
-    ensures { result ≡ moved }
-{
-    moved
-}
-
-pub fn frame_done(number: u8, moved: u8) -> FrameDone
-    ensures { result ≡ record { number = number; moved = moved } }
-{
-    FrameDone { number, moved }
-}
-
-pub fn run_done(ran: Ran, _moved: u8) -> Ran
-    ensures { result ≡ ran }
-{
-    ran
-}
-
-// A sample of each channel in turn, each entry of the frame replaced by its output.
+// A sample of each channel in turn, each entry of the frame replaced by its output. It answers how many voices of its
+// channels moved up: at most 62.
 pub fn process_frame(
     s: &mut Sampler,
     frame: &mut [f32],
     params: Params,
     memory: &mut [u32],
-) -> FrameDone
-    ensures { (result.number
-        ≡ frame_number s.old (length frame.old) params (length memory.old))
+) -> Result<u8, Refusal>
+    ensures { (done_in result
+        ≡ frame_judged s.old (length frame.old) params (length memory.old))
         × Frames (framed_of s.old frame.old params memory.old) s.new
         frame.new memory.new
-        × (result.moved ≡ frame_moved s.old frame.old params memory.old) }
+        × (moved_in result ≡ frame_moved s.old frame.old params memory.old) }
 {
-    let entries = frame.len();
-    let asked = frame_asked(s, entries, params, memory.len());
-    let n = asked.entries;
+    frame_judged(s, frame.len(), params, memory.len())?;
     let capacity = s.capacity;
     let mut moved = 0;
-    let mut i: usize = 0;
-    while i < n {
-        let j = frame_channel(i, s.count);
-        let start = sampler::part_start(j, capacity);
+    for i in 0..frame.len() {
+        let start = sampler::part_start(i, capacity);
         let end = start + capacity;
-        let heard = part_sample(&mut s.channels[j], params, frame[i], memory, start, end);
+        let heard = part_sample(&mut s.channels[i], params, frame[i], memory, start, end);
         frame[i] = heard.output;
-        moved = frame_moved(moved, heard);
-        i += 1;
+        moved += heard.moved;
     }
-    frame_done(asked.number, moved)
+    Ok(moved)
 }
 
 // A run of frames: entry i * count + j is channel j's of frame i. It has a loop of its own: one that it shared with the
@@ -1032,20 +612,14 @@ pub fn process_frames(s: &mut Sampler, run: &mut [f32], params: Params, memory: 
         × Frames (ran_of s.old run.old params memory.old) s.new
         run.new memory.new }
 {
-    let entries = run.len();
-    let asked = run_asked(s, entries, params, memory.len());
-    let n = asked.entries;
+    let ran = run_answer(s, run.len(), params, memory.len());
     let capacity = s.capacity;
-    let mut moved = 0;
-    let mut i: usize = 0;
-    while i < n {
+    for i in 0..ran.frames * s.count {
         let j = run_channel(i, s.count);
         let start = sampler::part_start(j, capacity);
         let end = start + capacity;
         let heard = part_sample(&mut s.channels[j], params, run[i], memory, start, end);
         run[i] = heard.output;
-        moved = run_moved(moved, heard);
-        i += 1;
     }
-    run_done(asked.ran, moved)
+    ran
 }

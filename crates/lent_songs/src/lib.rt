@@ -27,12 +27,6 @@ fn change_at(list: &[u64], place: usize, params: Params) -> Change
     songs::change_of(Cue::new(list[2 * place], list[2 * place + 1]), params)
 }
 
-fn answer(next: usize, refused: usize) -> Played
-    ensures { result ≡ record { next = next; refused = refused } }
-{
-    Played { next, refused }
-}
-
 // Makes the calls that are due at the frame count `at`, from the entry `next` of the list on, where the record stands.
 // To play a song, call it before the frame of each count.
 pub fn play(s: &mut Sampler, list: &[u64], next: usize, at: u64, params: Params) -> Played
@@ -40,13 +34,10 @@ pub fn play(s: &mut Sampler, list: &[u64], next: usize, at: u64, params: Params)
         ≡ play_of s.old list.now next at params }
 {
     let end = songs::due(list, next, at);
-    let mut refused: usize = 0;
-    let mut place = next;
-    while place < end {
-        let change = change_at(list, place, params);
-        let number = lent_sampler::change(s, change);
-        refused = songs::one_more(refused, number);
-        place += 1;
+    let mut refused = 0;
+    for place in next..end {
+        let done = lent_sampler::change(s, change_at(list, place, params));
+        refused = songs::one_more(refused, done);
     }
-    answer(end, refused)
+    Played { next: end, refused }
 }

@@ -1,4 +1,5 @@
 -- Document 01's example, computed from its bytes to its lines; and listings at each edge of what is good. Assumes nothing.
+use Rattle.std.specs.Prelude.{Some}
 use mathlib.Core.Path.{◌≡◌, refl}
 use mathlib.Core.Bool.{true, false, cond}
 use mathlib.Core.List.{List, [], ◌∷◌, ◌++◌, map}
@@ -8,7 +9,8 @@ use lib.IntN.{negsuc}
 use lib.Dec.{ltb, eqb}
 use lib.Ieee.{Float, fin, add, sub, mul, div, rem, neg, lt, le, eq, of_int, to_unsigned, is_nan, of_bits, to_bits, nan_bits, of_fields}
 use Rattle.binary32.specs.Leaves.{as_float, floor_of, min_of, max_of, crossing_of}
-use Rattle.walks.specs.Walks.{any, every, without, fold, seek}
+use Rattle.std.specs.List.{list_any, list_all, fold}
+use Rattle.walks.specs.Walks.{without}
 use Rattle.common_types.specs.declared.LoopMode.TheVariants.{PingPong}
 use Rattle.common_types.specs.declared.NoteOffBehaviour.TheVariants.{ZeroCrossing}
 use Rattle.common_types.specs.declared.time_value.TimeOrRatio.TheVariants.{Time, Ratio, WholeBars}
@@ -25,7 +27,7 @@ use Rattle.voice.specs.Voices.{span_of, tick_of, late_of, over_of, should_remove
 use Rattle.channel.specs.Heads.{phrase_by, begins_at, written_in, next_time, head_of, phrase_after, recorder_after, interpolates_after, chosen_after, head_changed_of, ramp_of, passthru_of, closed_of, good_head}
 use Rattle.channel.specs.Tables.{good_table, table_after, several_after, head_names, found_by, head_asks, asks_of, leaving_of, blocked_by, short_by}
 use Rattle.channel.specs.Channels.{channel_of, reset_of, uses_of, head_changed_in, any_unfinished_of, handled_of, pushed_of, start_playing_of, wanted_of, find_of, finished_at_of, stop_playing_of, sped_of, set_note_speed_of, kept_of, added_of, heard_sum, played_of, turning_by, resting, turning_at, turning_of, turning_in, taken_of, memory_of, process_sample_of, changed_of, good_voices_of, good_channel}
-use Rattle.sampler.specs.Refusals.{good_sizes, good_sampler, capacity_of, good_with, against_any, set_up_number, start_rows, stop_rows, speed_rows, frame_number}
+use Rattle.sampler.specs.Refusals.{good_sizes, good_sampler, capacity_of, good_with, against_any, set_up_judged, start_rows, stop_rows, speed_rows, frame_judged}
 use Rattle.sampler.specs.Samplers.{set_up_of, each_of, answer_of, part_of, played_at, channel_stepped_of as stepped_at, output_of, memory_at, entry_of, entries_of, framed_of}
 use Rattle.decimal.specs.Decimal.{digits, decimal}
 use Rattle.decimal.specs.Lines.{bytes, line_of, text_of}
@@ -34,7 +36,6 @@ use Rattle.listing.specs.Records.{half_at, word_at, float_at, good_header, heade
 use Rattle.listing.specs.Steps.{clock_of, voices_of, answer_played, settings_of, frame_of, call_played, memory_after, player_of, later_by, opened_of, record_step, step_memory}
 use Rattle.listing.specs.Whole.{printed_from, printed}
 use Rattle.listing.specs.declared.records.Header.{Header}
-use Rattle.listing.specs.declared.records.Reading.TheVariants.{Good}
 use Rattle.listing.specs.declared.records.Call.TheVariants.{Parameters, Start, Stop, Speed, StartRecording, StopRecording, Mono, Stereo, Reset}
 use Rattle.listing.specs.Faults.{header_fault_of, settings_fault_of, kind_fault_of, record_fault_of}
 use Rattle.listing.specs.declared.faults.HeaderFault.TheVariants as header
@@ -59,7 +60,7 @@ text (line ∷ lines) = bytes line ++ newline ++ text lines
 
 -- whatever a listing computes by
 computing : Unit {0}
-unfolding text from_hex pairs bytes line_of text_of digits decimal printed_from printed hex_digit hex_digits output_text outputs_of answer_line frame_line bad_line half_at word_at float_at good_header header_of kind_length to_read good_settings good_record loop_mode_of note_off_of length_by_kind transport_of params_of frame_call_of call_of record_of clock_of voices_of answer_played settings_of frame_of call_played memory_after player_of later_by opened_of record_step step_memory floor_of min_of max_of crossing_of any every without fold seek speed_of quarter_notes_per_bar_of samples_per_quarter_note_of samples_per_bar_of as_samples_of time_length_of length_of loop_length_of length_beyond beyond_limits progress_of level_of toward_of stepped_of good_ramp good_volume raised in_state misused_of skipped_of start_of stop_of is_recording_of recorded_of data_after good_recorder lead_of travel_at looped_of round_trip_of mirrored_of bounced_of wrapped_of placed_of clip_offset_at clip_to_data_of offset_at index_at made_of back_of found_at reversing_at shift_for settled_of with_speed with_mode with_length with_data_length good_length good_clip span_of tick_of late_of over_of should_remove_of moved_of position_of one_further next_at between_of value_of product_of sounded_of finish_of played_out_of ended_of volume_stepped turn_of fresh_of blank_voice at_speed_of good_voice next_time head_of ramp_of passthru_of closed_of good_head channel_of reset_of any_unfinished_of handled_of pushed_of start_playing_of wanted_of find_of finished_at_of stop_playing_of sped_of set_note_speed_of head_changed_of kept_of added_of heard_sum played_of turning_by resting turning_at turning_of turning_in no_samples is_over_by reach_of stored_in room_of others_of beside_with beside_of phrase_by begins_at written_in phrase_after recorder_after interpolates_after chosen_after good_table table_after several_after head_names found_by head_asks asks_of leaving_of blocked_by short_by uses_of head_changed_in taken_of memory_of process_sample_of changed_of good_voices_of good_channel good_sizes good_sampler capacity_of good_with against_any set_up_number start_rows stop_rows speed_rows frame_number set_up_of each_of answer_of part_of played_at stepped_at output_of memory_at entry_of entries_of framed_of add sub mul div rem neg lt le eq of_int to_unsigned is_nan of_bits to_bits nan_bits of_fields
+unfolding text from_hex pairs bytes line_of text_of digits decimal printed_from printed hex_digit hex_digits output_text outputs_of answer_line frame_line bad_line half_at word_at float_at good_header header_of kind_length to_read good_settings good_record loop_mode_of note_off_of length_by_kind transport_of params_of frame_call_of call_of record_of clock_of voices_of answer_played settings_of frame_of call_played memory_after player_of later_by opened_of record_step step_memory floor_of min_of max_of crossing_of without speed_of quarter_notes_per_bar_of samples_per_quarter_note_of samples_per_bar_of as_samples_of time_length_of length_of loop_length_of length_beyond beyond_limits progress_of level_of toward_of stepped_of good_ramp good_volume raised in_state misused_of skipped_of start_of stop_of is_recording_of recorded_of data_after good_recorder lead_of travel_at looped_of round_trip_of mirrored_of bounced_of wrapped_of placed_of clip_offset_at clip_to_data_of offset_at index_at made_of back_of found_at reversing_at shift_for settled_of with_speed with_mode with_length with_data_length good_length good_clip span_of tick_of late_of over_of should_remove_of moved_of position_of one_further next_at between_of value_of product_of sounded_of finish_of played_out_of ended_of volume_stepped turn_of fresh_of blank_voice at_speed_of good_voice next_time head_of ramp_of passthru_of closed_of good_head channel_of reset_of any_unfinished_of handled_of pushed_of start_playing_of wanted_of find_of finished_at_of stop_playing_of sped_of set_note_speed_of head_changed_of kept_of added_of heard_sum played_of turning_by resting turning_at turning_of turning_in no_samples is_over_by reach_of stored_in room_of others_of beside_with beside_of phrase_by begins_at written_in phrase_after recorder_after interpolates_after chosen_after good_table table_after several_after head_names found_by head_asks asks_of leaving_of blocked_by short_by uses_of head_changed_in taken_of memory_of process_sample_of changed_of good_voices_of good_channel good_sizes good_sampler capacity_of good_with against_any set_up_judged start_rows stop_rows speed_rows frame_judged set_up_of each_of answer_of part_of played_at stepped_at output_of memory_at entry_of entries_of framed_of add sub mul div rem neg lt le eq of_int to_unsigned is_nan of_bits to_bits nan_bits of_fields
 computing = tt
 
 -- ---- document 01's example
@@ -206,7 +207,7 @@ quarter = fin false 1 (negsuc 1)
 -- attack 1, decay 2, pass-through on, ping-pong, 0.5 bars, speed 2, reverse speed 3, zero crossing, volume 0.25, rate 4, tempo 5, 6 / 7
 each_setting :
     record_of mono (from_hex "002D 00 00000001 00000002 01 02 03 3F000000 40000000 40400000 01 3E800000 40800000 40A00000 00000006 00000007")
-    ≡ Good (Parameters (record {
+    ≡ Some (Parameters (record {
       attack_samples = 1;
       decay_samples = 2;
       transport = record { sample_rate = as_float 4; tempo = as_float 5; time_sig_numerator = 6; time_sig_denominator = 7 };
@@ -237,7 +238,7 @@ each_call :
     ∷ from_hex "0001 07"
     ∷ []
     )
-    ≡ map Good (
+    ≡ map Some (
     Start (record { note = 60; channel = 5 }) half quarter
     ∷ Stop (record { note = 60; channel = 5 })
     ∷ Speed (record { note = 60; channel = 5 }) half
@@ -250,7 +251,7 @@ each_call :
 unfolding computing
 each_call = refl
 
-two_floats : record_of stereo (from_hex "0009 06 3F000000 3E800000") ≡ Good (Stereo half quarter)
+two_floats : record_of stereo (from_hex "0009 06 3F000000 3E800000") ≡ Some (Stereo half quarter)
 unfolding computing
 two_floats = refl
 
@@ -280,39 +281,39 @@ reasons : Unit {0}
 unfolding text from_hex pairs bytes half_at without good_header kind_length header_fault_of settings_fault_of kind_fault_of record_fault_of
 reasons = tt
 
-no_version : header_fault_of (from_hex "0301 00") ≡ header.Version 3
+no_version : header_fault_of (from_hex "0301 00") ≡ Some (header.Version 3)
 unfolding reasons
 no_version = refl
 
-last_kinds : (record_fault_of mono (settings 1 2 5 2) ≡ fault.LengthKind 5 4) × (record_fault_of second (settings 1 2 6 2) ≡ fault.LengthKind 6 5)
+last_kinds : (record_fault_of mono (settings 1 2 5 2) ≡ Some (fault.LengthKind 5 4)) × (record_fault_of second (settings 1 2 6 2) ≡ Some (fault.LengthKind 6 5))
 unfolding reasons
 last_kinds = (refl, refl)
 
 -- a bad mode is called by its own name
-modes_told : map (record_fault_of mono) (settings 2 2 4 2 ∷ settings 1 3 4 2 ∷ settings 1 2 4 3 ∷ []) ≡ fault.Passthru 2 ∷ fault.LoopMode 3 ∷ fault.NoteOff 3 ∷ []
+modes_told : map (record_fault_of mono) (settings 2 2 4 2 ∷ settings 1 3 4 2 ∷ settings 1 2 4 3 ∷ []) ≡ map Some (fault.Passthru 2 ∷ fault.LoopMode 3 ∷ fault.NoteOff 3 ∷ [])
 unfolding reasons
 modes_told = refl
 
-three_of_two : header_fault_of (from_hex "0103 00") ≡ header.Channels 3
+three_of_two : header_fault_of (from_hex "0103 00") ≡ Some (header.Channels 3)
 unfolding reasons
 three_of_two = refl
 
-half_a_length : record_fault_of mono (from_hex "00") ≡ fault.NoLength
+half_a_length : record_fault_of mono (from_hex "00") ≡ Some fault.NoLength
 unfolding reasons
 half_a_length = refl
 
-length_of_46 : record_fault_of mono (from_hex "002E") ≡ fault.TooLong 46
+length_of_46 : record_fault_of mono (from_hex "002E") ≡ Some (fault.TooLong 46)
 unfolding reasons
 length_of_46 = refl
 
-two_missing : record_fault_of mono (from_hex "0005 06 3F00") ≡ fault.Cut 3 5
+two_missing : record_fault_of mono (from_hex "0005 06 3F00") ≡ Some (fault.Cut 3 5)
 unfolding reasons
 two_missing = refl
 
-kind_eight : record_fault_of mono (from_hex "0001 08") ≡ fault.Kind 8
+kind_eight : record_fault_of mono (from_hex "0001 08") ≡ Some (fault.Kind 8)
 unfolding reasons
 kind_eight = refl
 
-frame_of_four : record_fault_of mono (from_hex "0004 06 3F0000") ≡ fault.Length 6 4 5
+frame_of_four : record_fault_of mono (from_hex "0004 06 3F0000") ≡ Some (fault.Length 6 4 5)
 unfolding reasons
 frame_of_four = refl

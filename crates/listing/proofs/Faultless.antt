@@ -1,4 +1,5 @@
 -- A header or a record has a fault exactly where it isn't good. Assumes nothing.
+use Rattle.std.specs.Prelude.{None}
 use mathlib.Core.Path.{◌≡◌, refl, sym, ◌∙◌, ap}
 use mathlib.Core.Bool.{Bool, true, false, not, cond, ◌&&◌, ◌||◌, and-true, and-false, and_assoc}
 use mathlib.Core.List.{List}
@@ -11,7 +12,6 @@ use Rattle.octets.specs.Octets.{byte_at}
 use Rattle.listing.specs.Records.{half_at, kind_of, lengths, kind_length, last_length_kind, channel_count, good_header, good_settings, good_record}
 use Rattle.listing.specs.Faults.{header_fault_of, header_faultless, settings_fault_of, kind_fault_of, record_fault_of, record_faultless}
 use Rattle.listing.specs.declared.records.Header.{Header}
-use Rattle.listing.specs.declared.faults.RecordFault.TheVariants as fault
 
 -- ---- a test that finds a fault, before others
 module _ {F : Type 0} (faultless : F → Bool) where
@@ -104,7 +104,7 @@ module _ (h : Header) (r : List ℕ) where
 
   -- all there, and of its kind's length: only settings are left
   whole_faultless : length r ≡ half_at r 0 + 2 → half_at r 0 ≡ kind_length h (kind_of r) → (t : Bool) → eqb (kind_of r) 0 ≡ t
-      → record_faultless (cond (eqb (kind_of r) 0) (settings_fault_of h r) fault.None) ≡ good_record h r
+      → record_faultless (cond (eqb (kind_of r) 0) (settings_fault_of h r) None) ≡ good_record h r
   unfolding good_record
   whole_faultless all own true k = simp (k, eq-eqb (length r) (half_at r 0 + 2) all, eq-eqb (half_at r 0) (kind_length h (kind_of r)) own) settings_faultless
   whole_faultless all own false k = simp (k, eq-eqb (length r) (half_at r 0 + 2) all, eq-eqb (half_at r 0) (kind_length h (kind_of r)) own)

@@ -4,13 +4,14 @@ use mathlib.Core.Path.{◌≡◌, refl, sym, ◌∙◌, ap}
 use mathlib.Core.Logic.{◌≢◌}
 use mathlib.Core.Bool.{Bool, true, false, cond, ◌&&◌, and-false, or-false, true≢false}
 use mathlib.Core.List.{List, [], ◌∷◌, ◌++◌}
+use Rattle.std.specs.Prelude.{Option, Some, None}
 use Prim.Native.Nat.{ℕ, zero, suc, ◌+◌, ◌≤◌}
 use native.Mathlib.Omega.{arith}
 use borrow.Author.Tests.{leb-true, leb-false, eqb-true, eqb-false, le-leb, lt-leb, ne_eqb}
 use lib.Dec.{eqb, leb}
 use lib.ListN.{length, take, drop, replicate}
 use lib.Ieee.{Float}
-use Rattle.walks.specs.Walks.{any}
+use Rattle.std.specs.List.{list_any}
 use Rattle.walks.proofs.Tests.{neither}
 use Rattle.decimal.specs.Lines.{text_of}
 use Rattle.octets.specs.Octets.{byte_at}
@@ -19,10 +20,7 @@ use Rattle.listing.specs.Steps.{player_of, opened_of, open_of, record_step, step
 use Rattle.listing.specs.Whole.{next_of, printed_from, printed}
 use Rattle.listing.specs.Versions.{good_first_header, first_header_of, good_first_settings, good_first_record, first_length_of, first_params_of, first_record_of, step_by, memory_by, printed_from_by, printed_by, records_from, records_of, in_whole_bars, Versions}
 use Rattle.listing.specs.declared.records.Header.{Header}
-use Rattle.listing.specs.declared.records.Opening.{Opening}
-use Rattle.listing.specs.declared.records.Opening.TheVariants as opening
-use Rattle.listing.specs.declared.records.Reading.{Reading}
-use Rattle.listing.specs.declared.records.Reading.TheVariants as reading
+use Rattle.listing.specs.declared.records.Call.{Call}
 use Rattle.listing.specs.declared.Listing.{Listing}
 use Rattle.listing.specs.declared.Step.{Step}
 
@@ -47,23 +45,23 @@ headed v h = record { second = v; stereo = h.stereo; auto_passthru = h.auto_pass
 abbrev under : Bool → Listing → Listing
 under v l = record { header = headed v l.header; player = l.player; offset = l.offset; on = l.on }
 
-step_under : (v : Bool) (l : Listing) (r m : List ℕ) (x : Reading) (t : Bool) → eqb (length r) 0 ≡ t
+step_under : (v : Bool) (l : Listing) (r m : List ℕ) (x : Option Call) (t : Bool) → eqb (length r) 0 ≡ t
     → step_by x (under v l) r m ≡ record { listing = under v (step_by x l r m).listing; line = (step_by x l r m).line }
 unfolding step_by
 step_under v l r m x true e = simp (e)
-step_under v l r m (reading.Good call) false e = simp (e)
-step_under v l r m reading.Bad false e = simp (e)
+step_under v l r m (Some call) false e = simp (e)
+step_under v l r m None false e = simp (e)
 
-memory_under : (v : Bool) (l : Listing) (r m : List ℕ) (x : Reading) → memory_by x (under v l) r m ≡ memory_by x l r m
+memory_under : (v : Bool) (l : Listing) (r m : List ℕ) (x : Option Call) → memory_by x (under v l) r m ≡ memory_by x l r m
 unfolding memory_by
 memory_under v l r m x = refl
 
 -- one listing of version v, read by R, and one of version w, read by S, whose records are read alike but where p finds something
-module _ (R S : Header → List ℕ → Reading) (v w : Bool) (p : List ℕ → Bool)
+module _ (R S : Header → List ℕ → Option Call) (v w : Bool) (p : List ℕ → Bool)
     (alike : (h : Header) (r : List ℕ) → p r ≡ false → R (headed v h) r ≡ S (headed w h) r) where
-  printed_alike : (n : ℕ) (l : Listing) (m input : List ℕ) → any p (records_from n input) ≡ false
+  printed_alike : (n : ℕ) (l : Listing) (m input : List ℕ) → list_any p (records_from n input) ≡ false
       → printed_from_by R n (under v l) m input ≡ printed_from_by S n (under w l) m input
-  unfolding printed_from_by records_from any
+  unfolding printed_from_by records_from
   printed_alike zero l m input none = refl
   printed_alike (suc n) l m input none =
       let r = next_of input in
@@ -136,13 +134,12 @@ first_record h r = by (good_first_record (headed false h) r) refl (eqb (kind_of 
     by true e false q = simp (first_good h r, e, q)
     by true e true q = simp (first_good h r, e, eqb-true (kind_of r) 0 q, first_params r (kind_named (headed false h) r q e))
 
-none_found : (rs : List (List ℕ)) → any (λ (r : List ℕ). false) rs ≡ false
-unfolding any
+none_found : (rs : List (List ℕ)) → list_any (λ (r : List ℕ). false) rs ≡ false
 none_found [] = refl
 none_found (r ∷ rs) = none_found rs
 
 -- what follows a header
-abbrev prints : (Header → List ℕ → Reading) → ℕ → List ℕ → Opening → List ℕ
+abbrev prints : (Header → List ℕ → Option Call) → ℕ → List ℕ → Option Header → List ℕ
 prints R n later o = text_of (opened_of o 8192).line ++ printed_from_by R n (opened_of o 8192).listing (replicate 8192 0) later
 
 before_two : (input : List ℕ) → byte_at input 0 ≢ 2 → printed_by header_of record_of input ≡ printed_by first_header_of first_record_of input
@@ -182,7 +179,7 @@ same_record h r e = simp (same_good h r (eqb (kind_of r) 0) refl e)
 abbrev heading : Bool → List ℕ → Header
 heading v b = record { second = v; stereo = eqb (byte_at b 0) 2; auto_passthru = eqb (byte_at b 1) 1 }
 
-both_good : (b : List ℕ) → good_header (1 ∷ b) ≡ true → (header_of (2 ∷ b) ≡ opening.Good (heading true b)) × (header_of (1 ∷ b) ≡ opening.Good (heading false b))
+both_good : (b : List ℕ) → good_header (1 ∷ b) ≡ true → (header_of (2 ∷ b) ≡ Some (heading true b)) × (header_of (1 ∷ b) ≡ Some (heading false b))
 unfolding header_of good_header
 both_good b g = (simp (g), simp (g))
 
@@ -190,7 +187,7 @@ both_bad : (b : List ℕ) → good_header (1 ∷ b) ≡ false → header_of (2 �
 unfolding header_of good_header
 both_bad b g = simp (g)
 
-both_alike : (rest : List ℕ) → any in_whole_bars (records_of (1 ∷ rest)) ≡ false → printed_by header_of record_of (2 ∷ rest) ≡ printed_by header_of record_of (1 ∷ rest)
+both_alike : (rest : List ℕ) → list_any in_whole_bars (records_of (1 ∷ rest)) ≡ false → printed_by header_of record_of (2 ∷ rest) ≡ printed_by header_of record_of (1 ∷ rest)
 unfolding printed_by opened_of player_of
 both_alike rest none = by (good_header (1 ∷ take 2 rest)) refl
   where
@@ -199,9 +196,9 @@ both_alike rest none = by (good_header (1 ∷ take 2 rest)) refl
         let b = take 2 rest in
         let n = length (1 ∷ rest) + 1 in
         let later = drop 3 (1 ∷ rest) in
-        let l = (opened_of (opening.Good (heading false b)) 8192).listing in
+        let l = (opened_of (Some (heading false b)) 8192).listing in
         ap (prints record_of n later) (both_good b g).0
-        ∙ ap (λ (after : List ℕ). text_of (opened_of (opening.Good (heading false b)) 8192).line ++ after)
+        ∙ ap (λ (after : List ℕ). text_of (opened_of (Some (heading false b)) 8192).line ++ after)
         (printed_alike record_of record_of true false in_whole_bars same_record n l (replicate 8192 0) later none)
         ∙ sym (ap (prints record_of n later) (both_good b g).1)
     by false g = ap (prints record_of (length (1 ∷ rest) + 1) (drop 3 (1 ∷ rest))) (both_bad (take 2 rest) g)

@@ -1,7 +1,7 @@
 -- Document 01's event listing as bytes, with the version 2 of document 02's 4/12: which header and which record is good,
 -- and what call a good record is. A record is the list of its bytes from its two-byte length on, or as many of them as
 -- there are. Definitions only.
-use Rattle.std.specs.Prelude.{ℕ, ◌+◌, ◌*◌, Bool, not, cond, ◌&&◌, ◌||◌, List, [], ◌∷◌, eqb, leb, length, get_or, Float}
+use Rattle.std.specs.Prelude.{ℕ, ◌+◌, ◌*◌, Bool, not, cond, Option, Some, None, ◌&&◌, ◌||◌, List, [], ◌∷◌, eqb, leb, length, get_or, Float}
 use Rattle.binary32.specs.Leaves.{float_of}
 use Rattle.octets.specs.Octets.{byte_at}
 use Rattle.common_types.specs.Modes.{loop_mode_from_index_of, note_off_from_index_of}
@@ -11,16 +11,13 @@ use Rattle.common_types.specs.declared.Params.{Params}
 use Rattle.common_types.specs.declared.Transport.{Transport}
 use Rattle.common_types.specs.declared.LoopMode.{LoopMode}
 use Rattle.common_types.specs.declared.LoopMode.TheVariants.{PingPong}
-use Rattle.common_types.specs.declared.LoopModeAnswer.TheVariants as loop_mode
+use Rattle.std.specs.Prelude.{Ok, Err}
 use Rattle.common_types.specs.declared.NoteOffBehaviour.{NoteOffBehaviour}
 use Rattle.common_types.specs.declared.NoteOffBehaviour.TheVariants.{DecayAndZeroCrossing}
-use Rattle.common_types.specs.declared.NoteOffBehaviourAnswer.TheVariants as note_off
 use Rattle.common_types.specs.declared.time_value.TimeValue.TheVariants.{QuarterNotes, Samples, Seconds, Bars}
 use Rattle.common_types.specs.declared.time_value.TimeOrRatio.{TimeOrRatio}
 use Rattle.common_types.specs.declared.time_value.TimeOrRatio.TheVariants.{Time, Ratio, WholeBars}
 use Rattle.listing.specs.declared.records.Header.{Header}
-use Rattle.listing.specs.declared.records.Opening.{Opening}
-use Rattle.listing.specs.declared.records.Opening.TheVariants as opening
 use Rattle.listing.specs.declared.records.Call.{Call}
 use Rattle.listing.specs.declared.records.Call.TheVariants.{
   Parameters,
@@ -33,8 +30,6 @@ use Rattle.listing.specs.declared.records.Call.TheVariants.{
   Stereo,
   Reset,
 }
-use Rattle.listing.specs.declared.records.Reading.{Reading}
-use Rattle.listing.specs.declared.records.Reading.TheVariants as reading
 
 -- ---- fields: numbers big-endian, floats by their bits; a byte that isn't there is 0
 unfoldable pub half_at : List ℕ → ℕ → ℕ
@@ -54,11 +49,10 @@ unfoldable pub good_header : List ℕ → Bool
 good_header b = eqb (length b) 3 && (eqb (byte_at b 0) 1 || eqb (byte_at b 0) 2)
     && (eqb (byte_at b 1) 1 || eqb (byte_at b 1) 2) && leb (byte_at b 2) 1
 
-unfoldable pub header_of : List ℕ → Opening
+unfoldable pub header_of : List ℕ → Option Header
 header_of b = cond (good_header b)
-    (opening.Good
-    (record { second = eqb (byte_at b 0) 2; stereo = eqb (byte_at b 1) 2; auto_passthru = eqb (byte_at b 2) 1 }))
-    opening.Bad
+    (Some (record { second = eqb (byte_at b 0) 2; stereo = eqb (byte_at b 1) 2; auto_passthru = eqb (byte_at b 2) 1 }))
+    None
 
 -- ---- a record's kind stands after its length
 abbrev pub kind_of : List ℕ → ℕ
@@ -97,11 +91,11 @@ note_at r = note_of (byte_at r 3) (byte_at r 4)
 
 -- the modes by their index, as the engine numbers them; for one that it refuses, the last
 unfoldable pub loop_mode_of : ℕ → LoopMode
-loop_mode_of index = elim (loop_mode_from_index_of index) [ loop_mode.Done mode ↦ mode | loop_mode.Refused ↦ PingPong ]
+loop_mode_of index = elim (loop_mode_from_index_of index) [ Ok mode ↦ mode | Err refusal ↦ PingPong ]
 
 unfoldable pub note_off_of : ℕ → NoteOffBehaviour
 note_off_of index = elim
-    (note_off_from_index_of index) [ note_off.Done behaviour ↦ behaviour | note_off.Refused ↦ DecayAndZeroCrossing ]
+    (note_off_from_index_of index) [ Ok behaviour ↦ behaviour | Err refusal ↦ DecayAndZeroCrossing ]
 
 -- length kinds 0 to 4; 5 is whole bars
 abbrev pub first_lengths : Float → List TimeOrRatio
@@ -150,5 +144,5 @@ calls h r =
 unfoldable pub call_of : Header → List ℕ → Call
 call_of h r = get_or (calls h r) (kind_of r) Reset
 
-unfoldable pub record_of : Header → List ℕ → Reading
-record_of h r = cond (good_record h r) (reading.Good (call_of h r)) reading.Bad
+unfoldable pub record_of : Header → List ℕ → Option Call
+record_of h r = cond (good_record h r) (Some (call_of h r)) None

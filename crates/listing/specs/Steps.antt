@@ -1,13 +1,15 @@
 -- What a good record does to the engine and which line it prints, and what opens, goes on with and ends a listing
 -- (document 01, "The event listing"). Definitions only.
-use Rattle.std.specs.Prelude.{ℕ, ◌+◌, ◌-◌, ◌*◌, ◌^◌, min, true, false, cond, List, [], ◌∷◌, eqb, length, Float}
+use Rattle.std.specs.Prelude.{Ok, ℕ, ◌+◌, ◌-◌, ◌*◌, ◌^◌, min, true, false, cond, Option, Some, None, List, [], ◌∷◌, eqb, length, Float}
 use Rattle.common_types.specs.declared.Params.{Params}
 use Rattle.common_types.specs.Settings.{default_params, beyond_limits}
 use Rattle.decimal.specs.declared.Line.{Line}
 use Rattle.decimal.specs.Lines.{line_of}
 use Rattle.sampler.specs.declared.Sampler.{Sampler}
 use Rattle.sampler.specs.declared.Answer.{Answer}
-use Rattle.sampler.specs.Refusals.{channel_at, row, frame_number}
+use Rattle.refusals.specs.declared.Refusal.TheVariants.{BeyondLimits}
+use Rattle.refusals.specs.Refusals.{code_of, row}
+use Rattle.sampler.specs.Refusals.{channel_at, frame_number}
 use Rattle.sampler.specs.Samplers.{
   set_up_of,
   start_playing_of,
@@ -22,8 +24,6 @@ use Rattle.sampler.specs.Samplers.{
 use Rattle.listing.specs.Lines.{answer_line, frame_line, bad_line}
 use Rattle.listing.specs.Records.{channel_count, header_of, record_of}
 use Rattle.listing.specs.declared.records.Header.{Header}
-use Rattle.listing.specs.declared.records.Opening.{Opening}
-use Rattle.listing.specs.declared.records.Opening.TheVariants as opening
 use Rattle.listing.specs.declared.records.Call.{Call}
 use Rattle.listing.specs.declared.records.Call.TheVariants.{
   Parameters,
@@ -36,7 +36,6 @@ use Rattle.listing.specs.declared.records.Call.TheVariants.{
   Stereo,
   Reset,
 }
-use Rattle.listing.specs.declared.records.Reading.TheVariants as reading
 use Rattle.listing.specs.declared.player.Player.{Player}
 use Rattle.listing.specs.declared.player.Played.{Played}
 use Rattle.listing.specs.declared.Listing.{Listing}
@@ -54,13 +53,13 @@ voices_of s = (channel_at s 0).count
 -- a call of the engine that answers a number
 unfoldable pub answer_played : ℕ → Params → Answer → Played
 answer_played kind p
-    a = record { player = record { sampler = a.sampler; params = p }; line = line_of (answer_line kind a.number) }
+    a = record { player = record { sampler = a.sampler; params = p }; line = line_of (answer_line kind (code_of a.done)) }
 
 -- parameters that row 4 refuses leave the old ones
 unfoldable pub settings_of : Player → Params → Played
 settings_of y p =
     answer_played 0 (cond (beyond_limits p) y.params p)
-    (record { sampler = y.sampler; number = row (beyond_limits p) 4 0 })
+    (record { sampler = y.sampler; done = row (beyond_limits p) BeyondLimits (Ok tt) })
 
 abbrev pub framed_by : Player → List Float → List ℕ → Framed
 framed_by y inputs m = framed_of y.sampler inputs y.params m
@@ -120,10 +119,10 @@ abbrev pub no_header : Header
 no_header = record { second = false; stereo = false; auto_passthru = false }
 
 -- after a good header a listing is on; a bad one is answered and ends it. `size` is the length of the lent memory
-unfoldable pub opened_of : Opening → ℕ → Step
-opened_of (opening.Good h)
+unfoldable pub opened_of : Option Header → ℕ → Step
+opened_of (Some h)
     size = record { listing = record { header = h; player = player_of h size; offset = 3; on = true }; line = line_of [] }
-opened_of opening.Bad size = record {
+opened_of None size = record {
   listing = record { header = no_header; player = player_of no_header size; offset = 0; on = false };
   line = line_of (bad_line 0);
 }
@@ -139,18 +138,18 @@ over_with l line =
 -- the next record; where there is none, the end
 unfoldable pub record_step : Listing → List ℕ → List ℕ → Step
 record_step l r m = cond (eqb (length r) 0) (over_with l (line_of [])) (elim (record_of l.header r) [
-  | reading.Good call ↦
+  | Some call ↦
       let played = call_played l.player call m in
       record {
         listing =
             record { header = l.header; player = played.player; offset = later_by (length r) l.offset; on = true };
         line = played.line;
       }
-  | reading.Bad ↦ over_with l (line_of (bad_line l.offset))
+  | None ↦ over_with l (line_of (bad_line l.offset))
 ])
 
 unfoldable pub step_memory : Listing → List ℕ → List ℕ → List ℕ
 step_memory l r m = cond (eqb (length r) 0) m (elim (record_of l.header r) [
-  | reading.Good call ↦ memory_after l.player call m
-  | reading.Bad ↦ m
+  | Some call ↦ memory_after l.player call m
+  | None ↦ m
 ])

@@ -1,8 +1,8 @@
 -- Version 2 of the listing beside version 1 (document 02, 4/12). An input that doesn't begin with 02 prints what it
 -- printed when there was version 1 alone, and where no length is in whole bars both versions print the same:
 -- `proofs/Versions: versions` proves the record `Versions` at the end. Definitions only.
-use Rattle.std.specs.Prelude.{ℕ, zero, suc, ◌+◌, ◌≡◌, ◌≢◌, Bool, true, false, not, cond, ◌&&◌, ◌||◌, List, [], ◌∷◌, ◌++◌, eqb, leb, length, get_or, take, drop, replicate, Float}
-use Rattle.walks.specs.Walks.{any}
+use Rattle.std.specs.Prelude.{ℕ, zero, suc, ◌+◌, ◌≡◌, ◌≢◌, Bool, true, false, not, cond, Option, Some, None, ◌&&◌, ◌||◌, List, [], ◌∷◌, ◌++◌, eqb, leb, length, get_or, take, drop, replicate, Float}
+use Rattle.std.specs.List.{list_any}
 use Rattle.common_types.specs.declared.Params.{Params}
 use Rattle.common_types.specs.declared.time_value.TimeValue.TheVariants.{QuarterNotes, Samples, Seconds, Bars}
 use Rattle.common_types.specs.declared.time_value.TimeOrRatio.{TimeOrRatio}
@@ -26,12 +26,9 @@ use Rattle.listing.specs.Records.{
 use Rattle.listing.specs.Steps.{call_played, memory_after, later_by, opened_of, over_with}
 use Rattle.listing.specs.Whole.{next_of, printed}
 use Rattle.listing.specs.declared.records.Header.{Header}
-use Rattle.listing.specs.declared.records.Opening.{Opening}
-use Rattle.listing.specs.declared.records.Opening.TheVariants as opening
 use Rattle.listing.specs.declared.records.Call.{Call}
 use Rattle.listing.specs.declared.records.Call.TheVariants.{Parameters}
-use Rattle.listing.specs.declared.records.Reading.{Reading}
-use Rattle.listing.specs.declared.records.Reading.TheVariants as reading
+use Rattle.listing.specs.declared.records.Call.{Call}
 use Rattle.listing.specs.declared.Listing.{Listing}
 use Rattle.listing.specs.declared.Step.{Step}
 
@@ -41,10 +38,10 @@ abbrev pub good_first_header : List ℕ → Bool
 good_first_header b = eqb (length b) 3 && eqb (byte_at b 0) 1 && (eqb (byte_at b 1) 1 || eqb (byte_at b 1) 2)
     && leb (byte_at b 2) 1
 
-unfoldable pub first_header_of : List ℕ → Opening
+unfoldable pub first_header_of : List ℕ → Option Header
 first_header_of b = cond (good_first_header b)
-    (opening.Good (record { second = false; stereo = eqb (byte_at b 1) 2; auto_passthru = eqb (byte_at b 2) 1 }))
-    opening.Bad
+    (Some (record { second = false; stereo = eqb (byte_at b 1) 2; auto_passthru = eqb (byte_at b 2) 1 }))
+    None
 
 abbrev pub good_first_settings : List ℕ → Bool
 good_first_settings r = leb (byte_at r 11) 1 && leb (byte_at r 12) 2 && leb (byte_at r 13) 4 && leb (byte_at r 26) 2
@@ -73,34 +70,34 @@ first_params_of r = record {
 }
 
 -- the calls of kinds 1 to 7 are what they were
-unfoldable pub first_record_of : Header → List ℕ → Reading
+unfoldable pub first_record_of : Header → List ℕ → Option Call
 first_record_of h r =
     cond (good_first_record h r)
-    (reading.Good (cond (eqb (kind_of r) 0) (Parameters (first_params_of r)) (call_of h r)))
-    reading.Bad
+    (Some (cond (eqb (kind_of r) 0) (Parameters (first_params_of r)) (call_of h r)))
+    None
 
 -- ---- what is printed, for any meaning of the bytes: `record_step`, `step_memory`, `printed_from` and `printed` with `opens`
 -- for what a header means, and `reads` for a record
 
-unfoldable pub step_by : Reading → Listing → List ℕ → List ℕ → Step
+unfoldable pub step_by : Option Call → Listing → List ℕ → List ℕ → Step
 step_by x l r m = cond (eqb (length r) 0) (over_with l (line_of [])) (elim x [
-  | reading.Good call ↦
+  | Some call ↦
       let played = call_played l.player call m in
       record {
         listing =
             record { header = l.header; player = played.player; offset = later_by (length r) l.offset; on = true };
         line = played.line;
       }
-  | reading.Bad ↦ over_with l (line_of (bad_line l.offset))
+  | None ↦ over_with l (line_of (bad_line l.offset))
 ])
 
-unfoldable pub memory_by : Reading → Listing → List ℕ → List ℕ → List ℕ
+unfoldable pub memory_by : Option Call → Listing → List ℕ → List ℕ → List ℕ
 memory_by x l r m = cond (eqb (length r) 0) m (elim x [
-  | reading.Good call ↦ memory_after l.player call m
-  | reading.Bad ↦ m
+  | Some call ↦ memory_after l.player call m
+  | None ↦ m
 ])
 
-unfoldable pub printed_from_by : (Header → List ℕ → Reading) → ℕ → Listing → List ℕ → List ℕ → List ℕ
+unfoldable pub printed_from_by : (Header → List ℕ → Option Call) → ℕ → Listing → List ℕ → List ℕ → List ℕ
 printed_from_by reads zero l m input = []
 printed_from_by reads (suc n) l m input =
     let r = next_of input in
@@ -108,7 +105,7 @@ printed_from_by reads (suc n) l m input =
     let s = step_by x l r m in
     cond l.on (text_of s.line ++ printed_from_by reads n s.listing (memory_by x l r m) (drop (length r) input)) []
 
-unfoldable pub printed_by : (List ℕ → Opening) → (Header → List ℕ → Reading) → List ℕ → List ℕ
+unfoldable pub printed_by : (List ℕ → Option Header) → (Header → List ℕ → Option Call) → List ℕ → List ℕ
 printed_by opens reads input =
     let s = opened_of (opens (take 3 input)) 8192 in
     text_of s.line ++ printed_from_by reads (length input + 1) s.listing (replicate 8192 0) (drop 3 input)
@@ -132,5 +129,5 @@ pub record Versions : Type 0 where
   -- and what was printed before there was version 2, on every input that doesn't begin with 02.
   pub version_one : (input : List ℕ) → byte_at input 0 ≢ 2 → printed input ≡ printed_by first_header_of first_record_of input
   -- A listing of which no length is in whole bars prints the same under both versions.
-  pub same_otherwise : (rest : List ℕ) → any in_whole_bars (records_of (1 ∷ rest)) ≡ false
+  pub same_otherwise : (rest : List ℕ) → list_any in_whole_bars (records_of (1 ∷ rest)) ≡ false
       → printed (2 ∷ rest) ≡ printed (1 ∷ rest)

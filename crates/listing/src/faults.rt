@@ -6,9 +6,8 @@ use crate::fields::half_at;
 use crate::records::{Header, last_length_kind, length_of};
 use octets::byte_at;
 
-#[derive(Clone, Copy)]
+#[derive(Clone, Copy, PartialEq, Eq, Debug)]
 pub enum HeaderFault {
-    None,
     Empty,
     Cut,
     Version(u8),
@@ -16,9 +15,8 @@ pub enum HeaderFault {
     Passthru(u8),
 }
 
-#[derive(Clone, Copy)]
+#[derive(Clone, Copy, PartialEq, Eq, Debug)]
 pub enum RecordFault {
-    None,
     NoLength,
     NoKind,
     TooLong(u32),
@@ -31,31 +29,31 @@ pub enum RecordFault {
     NoteOff(u8),
 }
 
-pub fn header_fault(bytes: &[u8]) -> HeaderFault
+pub fn header_fault(bytes: &[u8]) -> Option<HeaderFault>
     ensures { result ≡ header_fault_of bytes.now }
 {
     let version = byte_at(bytes, 0);
     let count = byte_at(bytes, 1);
     let passthru = byte_at(bytes, 2);
-    if bytes.len() == 0 {
-        return HeaderFault::Empty;
+    if bytes.is_empty() {
+        return Some(HeaderFault::Empty);
     }
     if bytes.len() != 3 {
-        return HeaderFault::Cut;
+        return Some(HeaderFault::Cut);
     }
     if !((version == 1) | (version == 2)) {
-        return HeaderFault::Version(version);
+        return Some(HeaderFault::Version(version));
     }
     if !((count == 1) | (count == 2)) {
-        return HeaderFault::Channels(count);
+        return Some(HeaderFault::Channels(count));
     }
     if passthru > 1 {
-        return HeaderFault::Passthru(passthru);
+        return Some(HeaderFault::Passthru(passthru));
     }
-    HeaderFault::None
+    None
 }
 
-fn settings_fault(h: Header, r: &[u8]) -> RecordFault
+fn settings_fault(h: Header, r: &[u8]) -> Option<RecordFault>
     ensures { result ≡ settings_fault_of h r.now }
 {
     let passthru = byte_at(r, 11);
@@ -64,54 +62,54 @@ fn settings_fault(h: Header, r: &[u8]) -> RecordFault
     let last = last_length_kind(h);
     let note_off = byte_at(r, 26);
     if passthru > 1 {
-        return RecordFault::Passthru(passthru);
+        return Some(RecordFault::Passthru(passthru));
     }
     if loop_mode > 2 {
-        return RecordFault::LoopMode(loop_mode);
+        return Some(RecordFault::LoopMode(loop_mode));
     }
     if kind > last {
-        return RecordFault::LengthKind { kind, last };
+        return Some(RecordFault::LengthKind { kind, last });
     }
     if note_off > 2 {
-        return RecordFault::NoteOff(note_off);
+        return Some(RecordFault::NoteOff(note_off));
     }
-    RecordFault::None
+    None
 }
 
-fn kind_fault(h: Header, r: &[u8]) -> RecordFault
+fn kind_fault(h: Header, r: &[u8]) -> Option<RecordFault>
     ensures { result ≡ kind_fault_of h r.now }
 {
     let kind = byte_at(r, 2);
     let has = half_at(r, 0);
     let asked = length_of(h, kind);
     if kind > 7 {
-        return RecordFault::Kind(kind);
+        return Some(RecordFault::Kind(kind));
     }
     if has as usize != asked {
-        return RecordFault::Length { kind, has, asked };
+        return Some(RecordFault::Length { kind, has, asked });
     }
     if kind == 0 {
         return settings_fault(h, r);
     }
-    RecordFault::None
+    None
 }
 
-pub fn record_fault(h: Header, r: &[u8]) -> RecordFault
+pub fn record_fault(h: Header, r: &[u8]) -> Option<RecordFault>
     ensures { result ≡ record_fault_of h r.now }
 {
     let size = half_at(r, 0);
     let n = r.len();
     if n < 2 {
-        return RecordFault::NoLength;
+        return Some(RecordFault::NoLength);
     }
     if size == 0 {
-        return RecordFault::NoKind;
+        return Some(RecordFault::NoKind);
     }
     if size > 45 {
-        return RecordFault::TooLong(size);
+        return Some(RecordFault::TooLong(size));
     }
     if n != size as usize + 2 {
-        return RecordFault::Cut { has: n - 2, size };
+        return Some(RecordFault::Cut { has: n - 2, size });
     }
     kind_fault(h, r)
 }

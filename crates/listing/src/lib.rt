@@ -8,14 +8,14 @@ pub mod player;
 pub mod records;
 pub mod texts;
 
-ghost use Rattle.std.specs.Prelude.{◌≡◌, ◌*◌, min, length};
+ghost use Rattle.std.specs.Prelude.{◌≡◌, ◌≤◌, ◌*◌, min, length};
 ghost use Rattle.listing.specs.Records.{channel_count};
 ghost use Rattle.listing.specs.Steps.{player_of, later_by, open_of, over_with, record_step, step_memory};
 
 use common_types::{InitParams, Params};
 use decimal::Line;
 use player::Player;
-use records::{Header, Opening, Reading, read_header, read_record};
+use records::{Header, read_header, read_record};
 use sampler::Sampler;
 use texts::bad_line;
 
@@ -36,7 +36,8 @@ pub struct Step {
 }
 
 fn channels(h: Header) -> usize
-    ensures { result ≡ channel_count h }
+    ensures value { result ≡ channel_count h }
+    ensures at_most { result ≤ 2 }
 {
     if h.stereo { 2 } else { 1 }
 }
@@ -45,15 +46,14 @@ fn channels(h: Header) -> usize
 fn samples(h: Header) -> usize
     ensures { result ≡ channel_count h * 4096 }
 {
-    if h.stereo { 8192 } else { 4096 }
+    channels(h) * 4096
 }
 
 // How much of the lent memory is the engine's.
 fn lent(h: Header, size: usize) -> usize
     ensures { result ≡ min size (channel_count h * 4096) }
 {
-    let most = samples(h);
-    if size < most { size } else { most }
+    samples(h).min(size)
 }
 
 fn player_for(h: Header, memory: &[u32]) -> Player
@@ -74,12 +74,7 @@ fn player_for(h: Header, memory: &[u32]) -> Player
 fn later(offset: u64, n: usize) -> u64
     ensures { result ≡ later_by n offset }
 {
-    let room = u64::MAX - offset;
-    if (n as u64) < room {
-        offset + n as u64
-    } else {
-        u64::MAX
-    }
+    offset.saturating_add(n as u64)
 }
 
 // Begins with the bytes of a header.
@@ -87,7 +82,7 @@ pub fn open(bytes: &[u8], memory: &[u32]) -> Step
     ensures { result ≡ open_of bytes.now (length memory.now) }
 {
     match read_header(bytes) {
-        Opening::Good(header) => Step {
+        Some(header) => Step {
             listing: Listing {
                 header,
                 player: player_for(header, memory),
@@ -96,7 +91,7 @@ pub fn open(bytes: &[u8], memory: &[u32]) -> Step
             },
             line: Line::new(),
         },
-        Opening::Bad => {
+        None => {
             let header = Header {
                 second: false,
                 stereo: false,
@@ -129,27 +124,24 @@ impl Listing {
         ensures value { result ≡ record_step self bytes.now memory.old }
         ensures memory_after { memory.new ≡ step_memory self bytes.now memory.old }
     {
-        if bytes.len() == 0 {
+        if bytes.is_empty() {
             return self.ended(Line::new());
         }
         let header = self.header;
         match read_record(header, bytes) {
-            Reading::Good(call) => {
-                let player = self.player;
-                let played = player.play(call, memory);
-                let after = played.player;
-                let line = played.line;
+            Some(call) => {
+                let played = self.player.play(call, memory);
                 Step {
                     listing: Listing {
                         header,
-                        player: after,
+                        player: played.player,
                         offset: later(self.offset, bytes.len()),
                         on: true,
                     },
-                    line,
+                    line: played.line,
                 }
             }
-            Reading::Bad => self.ended(bad_line(self.offset)),
+            None => self.ended(bad_line(self.offset)),
         }
     }
 }

@@ -15,6 +15,7 @@ use crate::records::Call;
 use crate::texts::{answer_line, mono_line, stereo_line};
 use common_types::Params;
 use decimal::Line;
+use refusals::{Refusal, code};
 use sampler::{Answer, Sampler};
 
 #[derive(Clone, Copy)]
@@ -44,10 +45,12 @@ fn voices(s: Sampler) -> usize
 fn answered(kind: u8, params: Params, a: Answer) -> Played
     ensures { result ≡ answer_played kind params a }
 {
-    let sampler = a.sampler;
     Played {
-        player: Player { sampler, params },
-        line: answer_line(kind, a.number),
+        player: Player {
+            sampler: a.sampler,
+            params,
+        },
+        line: answer_line(kind, code(a.done)),
     }
 }
 
@@ -57,10 +60,17 @@ impl Player {
     {
         let sampler = self.sampler;
         if params.beyond_limits() {
-            let old = self.params;
-            answered(0, old, Answer { sampler, number: 4 })
+            let done = Err(Refusal::BeyondLimits);
+            answered(0, self.params, Answer { sampler, done })
         } else {
-            answered(0, params, Answer { sampler, number: 0 })
+            answered(
+                0,
+                params,
+                Answer {
+                    sampler,
+                    done: Ok(()),
+                },
+            )
         }
     }
 
@@ -68,20 +78,20 @@ impl Player {
         ensures value { result ≡ frame_of self (input ∷ []) memory.old }
         ensures memory_after { memory.new ≡ (framed_by self (input ∷ []) memory.old).memory }
     {
-        let s = self.sampler;
         let params = self.params;
-        let before = clock(s);
+        let before = clock(self.sampler);
         let mut frame = [input];
-        let a = own_sampler::process_frame(s, &mut frame, params, memory);
+        let a = own_sampler::process_frame(self.sampler, &mut frame, params, memory);
         let sampler = a.sampler;
-        let number = a.done.number;
-        if number == 0 {
-            Played {
+        match a.done {
+            Ok(_) => Played {
                 player: Player { sampler, params },
                 line: mono_line(before, frame[0], voices(sampler)),
+            },
+            Err(refusal) => {
+                let done = Err(refusal);
+                answered(6, params, Answer { sampler, done })
             }
-        } else {
-            answered(6, params, Answer { sampler, number })
         }
     }
 
@@ -89,20 +99,20 @@ impl Player {
         ensures value { result ≡ frame_of self (first ∷ second ∷ []) memory.old }
         ensures memory_after { memory.new ≡ (framed_by self (first ∷ second ∷ []) memory.old).memory }
     {
-        let s = self.sampler;
         let params = self.params;
-        let before = clock(s);
+        let before = clock(self.sampler);
         let mut frame = [first, second];
-        let a = own_sampler::process_frame(s, &mut frame, params, memory);
+        let a = own_sampler::process_frame(self.sampler, &mut frame, params, memory);
         let sampler = a.sampler;
-        let number = a.done.number;
-        if number == 0 {
-            Played {
+        match a.done {
+            Ok(_) => Played {
                 player: Player { sampler, params },
                 line: stereo_line(before, frame[0], frame[1], voices(sampler)),
+            },
+            Err(refusal) => {
+                let done = Err(refusal);
+                answered(6, params, Answer { sampler, done })
             }
-        } else {
-            answered(6, params, Answer { sampler, number })
         }
     }
 

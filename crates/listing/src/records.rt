@@ -22,9 +22,7 @@ ghost use Rattle.listing.specs.Records.{
 
 use crate::fields::{float_at, half_at, word_at};
 use common_types::time_value::{TimeOrRatio, TimeValue};
-use common_types::{
-    LoopMode, LoopModeAnswer, Note, NoteOffBehaviour, NoteOffBehaviourAnswer, Params, Transport,
-};
+use common_types::{LoopMode, Note, NoteOffBehaviour, Params, Transport};
 use octets::byte_at;
 
 // A listing is of the first version or the second, and has one channel or two.
@@ -33,12 +31,6 @@ pub struct Header {
     pub second: bool,
     pub stereo: bool,
     pub auto_passthru: bool,
-}
-
-#[derive(Clone, Copy)]
-pub enum Opening {
-    Good(Header),
-    Bad,
 }
 
 // What a record asks for. A frame is one float a channel.
@@ -69,12 +61,6 @@ pub enum Call {
     Reset,
 }
 
-#[derive(Clone, Copy)]
-pub enum Reading {
-    Good(Call),
-    Bad,
-}
-
 fn good_header(bytes: &[u8]) -> bool
     ensures { result ≡ good_header bytes.now }
 {
@@ -86,17 +72,18 @@ fn good_header(bytes: &[u8]) -> bool
         & (byte_at(bytes, 2) <= 1)
 }
 
-pub fn read_header(bytes: &[u8]) -> Opening
+// None for a bad header.
+pub fn read_header(bytes: &[u8]) -> Option<Header>
     ensures { result ≡ header_of bytes.now }
 {
     if good_header(bytes) {
-        Opening::Good(Header {
+        Some(Header {
             second: byte_at(bytes, 0) == 2,
             stereo: byte_at(bytes, 1) == 2,
             auto_passthru: byte_at(bytes, 2) == 1,
         })
     } else {
-        Opening::Bad
+        None
     }
 }
 
@@ -151,22 +138,18 @@ fn good_record(h: Header, r: &[u8]) -> bool
     (r.len() == size + 2) & (size == length_of(h, kind)) & ((kind != 0) | good_settings(h, r))
 }
 
+#[tactic(auto, unfolding(crate::specs::Records::loop_mode_of))]
 pub fn loop_mode(index: u8) -> LoopMode
     ensures { result ≡ loop_mode_of index }
 {
-    match LoopMode::from_index(index as usize) {
-        LoopModeAnswer::Done(mode) => mode,
-        LoopModeAnswer::Refused => LoopMode::PingPong,
-    }
+    LoopMode::from_index(index as usize).unwrap_or(LoopMode::PingPong)
 }
 
+#[tactic(auto, unfolding(crate::specs::Records::note_off_of))]
 pub fn note_off(index: u8) -> NoteOffBehaviour
     ensures { result ≡ note_off_of index }
 {
-    match NoteOffBehaviour::from_index(index as usize) {
-        NoteOffBehaviourAnswer::Done(behaviour) => behaviour,
-        NoteOffBehaviourAnswer::Refused => NoteOffBehaviour::DecayAndZeroCrossing,
-    }
+    NoteOffBehaviour::from_index(index as usize).unwrap_or(NoteOffBehaviour::DecayAndZeroCrossing)
 }
 
 pub fn loop_length(kind: u8, value: f32) -> TimeOrRatio
@@ -254,12 +237,13 @@ fn call_of(h: Header, r: &[u8]) -> Call
     }
 }
 
-pub fn read_record(h: Header, r: &[u8]) -> Reading
+// None for a bad record.
+pub fn read_record(h: Header, r: &[u8]) -> Option<Call>
     ensures { result ≡ record_of h r.now }
 {
     if good_record(h, r) {
-        Reading::Good(call_of(h, r))
+        Some(call_of(h, r))
     } else {
-        Reading::Bad
+        None
     }
 }

@@ -1,189 +1,132 @@
 // What a run holds between two records, and the text of what a record answers and leaves.
-ghost use Rattle.std.specs.Prelude.{◌≡◌, ◌+◌, ◌*◌, ◌<◌, ◌≤◌, length};
+ghost use Rattle.std.specs.Prelude.{◌≡◌, ◌+◌, ◌*◌, ◌≤◌, length, min};
 
 use crate::calls::Heard;
+use crate::waves::mixed;
 use common_types::{InitParams, Params};
-use oracle_lines::line::{end, put, put_f32, put_u32, write};
+use oracle_lines::field::{Record, u32_at};
+use oracle_lines::line::Text;
 use oracle_show::record::put_sampler;
-use oracle_show::replies::{put_file, put_number, put_written};
-use questions::Counted;
-use recordings::ReadAnswer;
-use sampler::{Answer, RunAnswer, Sampler};
+use oracle_show::replies::{put_bytes, put_number, put_written};
+use refusals::{Refusal, code};
+use sampler::{Ran, Sampler};
 
-// The sampler and the parameters of its calls; how much text waits to be written; and whether the listing goes on.
-#[derive(Clone, Copy)]
+// The sampler, and the parameters of its calls; the memory and the file that are lent to them; and the lines that wait
+// to be written.
+#[derive(Drop)]
 pub struct Run {
     pub sampler: Sampler,
     pub params: Params,
-    pub at: usize,
-    pub go: bool,
-}
-
-// No sampler is set up yet, and every call is refused.
-pub fn begun(memory: &[u32]) -> Run
-    ensures { result.at ≡ 0 }
-{
-    let a = Sampler::new(0, InitParams::default(), memory);
-    let sampler = a.sampler;
-    Run {
-        sampler,
-        params: Params::default(),
-        at: 0,
-        go: true,
-    }
-}
-
-// Writes the text once it takes half of the room, so that any answer fits after it.
-pub fn room(rt: &impl Print, out: &[u8; 65536], at: usize) -> usize
-    requires { at ≤ 65536 }
-    ensures { result ≤ 32768 }
-{
-    if at <= 32768 {
-        return at;
-    }
-    write(rt, out, at);
-    0
-}
-
-// The count of channels and the capacity, which end the line, and what is in use of the record.
-fn put_record(out: &mut [u8; 65536], at: usize, s: Sampler) -> usize
-    requires { at + 14000 ≤ 65536 }
-    ensures { result ≤ at + 14000 }
-{
-    let first = put(out, at, 1, (s.count % 16) as u64);
-    let second = put_u32(out, first, (s.capacity % 0x1_0000_0000) as u32);
-    let third = end(out, second);
-    put_sampler(out, third, s)
-}
-
-fn put_entries(out: &mut [u8; 65536], at: usize, h: Heard) -> usize
-    requires { at + 30 ≤ 65536 }
-    ensures { result ≡ at + 30 }
-{
-    let first = put_f32(out, at, h.entries[0]);
-    let second = put_f32(out, first, h.entries[1]);
-    let third = put_f32(out, second, h.entries[2]);
-    put(out, third, 2, h.moved as u64)
-}
-
-// The entries of a run of frames.
-fn put_run(out: &mut [u8; 65536], at: usize, entries: &[f32]) -> usize
-    requires entries_len_bound { length entries.now ≤ 2048 }
-    requires at_bound { at + 18432 ≤ 65536 }
-    ensures { result ≤ at + 18432 }
-{
-    let mut place = at;
-    let mut i = 0;
-    while i < entries.len() {
-        place = put_f32(out, place, entries[i]);
-        i += 1;
-    }
-    place
+    pub memory: [u32; 65536],
+    pub file: [u8; 1024],
+    pub out: Text,
 }
 
 impl Run {
-    // Goes on with another sampler, and text up to `at`.
-    pub fn on(self, sampler: Sampler, at: usize) -> Self
-        ensures { result.at ≡ at }
-    {
-        let params = self.params;
+    // No sampler is set up yet, and every call is refused.
+    pub fn new() -> Self {
         Self {
-            sampler,
-            params,
-            at,
-            go: self.go,
+            sampler: Sampler::new(0, InitParams::default(), &[]).sampler,
+            params: Params::default(),
+            memory: [0; 65536],
+            file: [0; 1024],
+            out: Text::new(),
         }
     }
 
-    pub fn answered(self, kind: u8, a: Answer, out: &mut [u8; 65536], at: usize) -> Self
-        requires { at ≤ 32768 }
-        ensures { result.at ≤ 65536 }
+    // How many samples of memory are lent: the number at 16, or all.
+    pub fn lent(&self, fields: &Record) -> usize
+        ensures { result ≤ 65536 }
     {
-        let sampler = a.sampler;
-        let first = put_number(out, at, kind, a.number);
-        let second = put_record(out, first, sampler);
-        self.on(sampler, second)
+        (u32_at(fields, 16) as usize).min(65536)
     }
 
-    pub fn heard(self, kind: u8, h: Heard, out: &mut [u8; 65536], at: usize) -> Self
-        requires { at ≤ 32768 }
-        ensures { result.at ≤ 65536 }
+    // The count of channels and the capacity, which end the line, and what is in use of the record.
+    fn put_record(&mut self)
+        ensures { length self.new.out ≤ length self.old.out + 14000 }
     {
-        let sampler = h.sampler;
-        let first = put_number(out, at, kind, h.number);
-        let second = put_entries(out, first, h);
-        let third = put_record(out, second, sampler);
-        self.on(sampler, third)
+        let s = &self.sampler;
+        self.out.put::<1>((s.count % 16) as u64);
+        self.out.put_u32((s.capacity % 0x1_0000_0000) as u32);
+        self.out.end();
+        put_sampler(&mut self.out, s)
+    }
+
+    pub fn answered(&mut self, kind: u8, number: u8)
+        ensures { length self.new.out ≤ length self.old.out + 14006 }
+    {
+        put_number(&mut self.out, kind, number);
+        self.put_record()
+    }
+
+    pub fn heard(&mut self, kind: u8, h: Heard)
+        ensures { length self.new.out ≤ length self.old.out + 14036 }
+    {
+        put_number(&mut self.out, kind, h.number);
+        self.out.put_f32(h.entries[0]);
+        self.out.put_f32(h.entries[1]);
+        self.out.put_f32(h.entries[2]);
+        self.out.put_u8(h.moved);
+        self.put_record()
     }
 
     // The frames that are done, and every entry.
-    pub fn ran(
-        self,
-        kind: u8,
-        a: RunAnswer,
-        entries: &[f32],
-        out: &mut [u8; 65536],
-        at: usize,
-    ) -> Self
-        requires at_bound { at ≤ 32768 }
-        requires entries_len_bound { length entries.now ≤ 2048 }
-        ensures { result.at ≤ 65536 }
+    pub fn ran(&mut self, kind: u8, ran: Ran, entries: &[f32])
+        ensures { length self.new.out ≤ length self.old.out + 14015 + 9 * length entries.now }
     {
-        let sampler = a.sampler;
-        let ran = a.ran;
-        let first = put_number(out, at, kind, ran.number);
-        let second = put_u32(out, first, (ran.frames % 0x1_0000_0000) as u32);
-        let third = put_run(out, second, entries);
-        let fourth = put_record(out, third, sampler);
-        self.on(sampler, fourth)
+        put_number(&mut self.out, kind, code(ran.done));
+        self.out.put_u32((ran.frames % 0x1_0000_0000) as u32);
+        for entry in entries {
+            self.out.put_f32(*entry);
+        }
+        self.put_record()
     }
 
     // How many bytes were written, and the file's room.
-    pub fn wrote(self, kind: u8, a: Counted, file: &[u8], out: &mut [u8; 65536], at: usize) -> Self
-        requires { at ≤ 32768 }
-        ensures { result.at ≤ 65536 }
+    pub fn wrote(&mut self, kind: u8, a: Result<usize, Refusal>)
+        ensures { length self.new.out ≤ length self.old.out + 17095 }
     {
-        let sampler = self.sampler;
-        let first = put_written(out, at, kind, a);
-        let second = put_file(out, first, file);
-        let third = put_record(out, second, sampler);
-        self.on(sampler, third)
+        put_written(&mut self.out, kind, a);
+        put_bytes(&mut self.out, &self.file);
+        self.put_record()
     }
 
     // The file's rate, and a number that is made of the memory's words.
-    pub fn took(self, kind: u8, a: ReadAnswer, words: u32, out: &mut [u8; 65536], at: usize) -> Self
-        requires { at ≤ 32768 }
-        ensures { result.at ≤ 65536 }
+    pub fn took(&mut self, kind: u8, read: Result<u32, Refusal>)
+        ensures { length self.new.out ≤ length self.old.out + 14024 }
     {
-        let sampler = a.sampler;
-        let read = a.read;
-        let first = put_number(out, at, kind, read.number);
-        let second = put_u32(out, first, read.rate);
-        let third = put_u32(out, second, words);
-        let fourth = put_record(out, third, sampler);
-        self.on(sampler, fourth)
+        let (number, rate) = match read {
+            Ok(rate) => (0, rate),
+            Err(refusal) => (refusal.number(), 0),
+        };
+        put_number(&mut self.out, kind, number);
+        self.out.put_u32(rate);
+        self.out.put_u32(mixed(&self.memory));
+        self.put_record()
     }
 
     // A number that is made of the memory's words.
-    pub fn gathered(self, kind: u8, a: Answer, words: u32, out: &mut [u8; 65536], at: usize) -> Self
-        requires { at ≤ 32768 }
-        ensures { result.at ≤ 65536 }
+    pub fn gathered(&mut self, kind: u8, number: u8)
+        ensures { length self.new.out ≤ length self.old.out + 14015 }
     {
-        let sampler = a.sampler;
-        let first = put_number(out, at, kind, a.number);
-        let second = put_u32(out, first, words);
-        let third = put_record(out, second, sampler);
-        self.on(sampler, third)
+        put_number(&mut self.out, kind, number);
+        self.out.put_u32(mixed(&self.memory));
+        self.put_record()
     }
 
     // A line with no more than the kind, for a record that leaves the sampler as it is.
-    pub fn told(self, kind: u8, out: &mut [u8; 65536], at: usize) -> Self
-        requires { at ≤ 32768 }
-        ensures { result.at ≤ 32774 }
+    pub fn told(&mut self, kind: u8)
+        ensures { length self.new.out ≡ min (length self.old.out + 6) 65536 }
     {
-        let mut r = self;
-        let first = put_number(out, at, kind, 0);
-        r.at = end(out, first);
-        r
+        put_number(&mut self.out, kind, 0);
+        self.out.end()
+    }
+
+    // A bad record, which ends the listing.
+    pub fn bad(&mut self)
+        ensures { length self.new.out ≡ min (length self.old.out + 2) 65536 }
+    {
+        self.out.tag(b'X');
+        self.out.end()
     }
 }

@@ -3,7 +3,8 @@ ghost use Rattle.std.specs.Prelude.{◌≤◌, length};
 
 use std::io::Read;
 
-// Reads until `chunk` is full, the input ends or a read fails, and answers how many bytes it put in front.
+// Reads until `chunk` is full, the input ends or a read fails, and answers how many bytes it put in front. (Not
+// `read_exact`, which doesn't say how many.)
 pub fn read_full(from: &mut impl Read, chunk: &mut [u8]) -> usize
     ensures { result ≤ length chunk.old }
 {

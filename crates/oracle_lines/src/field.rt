@@ -1,27 +1,29 @@
 // The arguments of a record: big-endian numbers at fixed places, and floats by their bits.
-ghost use Rattle.std.specs.Prelude.{◌+◌, ◌≤◌, ◌<◌, length};
+ghost use Rattle.std.specs.Prelude.{◌+◌, ◌≤◌};
 
-pub fn u32_at(fields: &[u8], at: usize) -> u32
-    requires { at + 4 ≤ length fields.now }
+// One call, or one question to a part: its kind or the part's number, then its arguments.
+pub type Record = [u8; 64];
+
+pub fn u32_at<const N: usize>(fields: &[u8; N], at: usize) -> u32
+    requires { at + 4 ≤ N }
 {
     octets::of_four(fields[at], fields[at + 1], fields[at + 2], fields[at + 3])
 }
 
-pub fn u64_at(fields: &[u8], at: usize) -> u64
-    requires { at + 8 ≤ length fields.now }
+pub fn u64_at<const N: usize>(fields: &[u8; N], at: usize) -> u64
+    requires { at + 8 ≤ N }
 {
     (u32_at(fields, at) as u64) * 0x1_0000_0000 + (u32_at(fields, at + 4) as u64)
 }
 
-pub fn f32_at(fields: &[u8], at: usize) -> f32
-    requires { at + 4 ≤ length fields.now }
+pub fn usize_at<const N: usize>(fields: &[u8; N], at: usize) -> usize
+    requires { at + 8 ≤ N }
 {
-    binary32::from_bits(u32_at(fields, at))
+    u64_at(fields, at) as usize
 }
 
-// A byte as a wider number.
-pub fn wide(x: u8) -> u32
-    ensures { result < 256 }
+pub fn f32_at<const N: usize>(fields: &[u8; N], at: usize) -> f32
+    requires { at + 4 ≤ N }
 {
-    x as u32
+    binary32::from_bits(u32_at(fields, at))
 }

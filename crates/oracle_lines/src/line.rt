@@ -1,109 +1,158 @@
-// A line of answers: words with a space between them, each an answer. A word is one number in upper-case hexadecimal
-// digits, or several with a colon between them. Each function puts its text at a place of `out`, and answers the place
-// after it.
-ghost use Rattle.std.specs.Prelude.{◌≡◌, ◌+◌, ◌≤◌, ◌<◌};
+// Lines of answers: words with a space behind each, of which the line's end takes the last. A word is one number in
+// upper-case hexadecimal digits, or several with a colon between them.
+ghost use Rattle.std.specs.Prelude.{◌≡◌, ◌+◌, ◌-◌, ◌<◌, ◌≤◌, [], length, min};
 
-// A letter as a word.
-pub fn tag(out: &mut [u8; 65536], at: usize, letter: u8) -> usize
-    requires { at + 2 ≤ 65536 }
-    ensures { result ≡ at + 2 }
-{
-    out[at] = letter;
-    out[at + 1] = b' ';
-    at + 2
+use std::marker::Model;
+
+// The lines that wait to be written: as many of the bytes as the length says. What is past the room is cut; no program
+// comes there, as each writes what waits before the rest is too short for a record's answer.
+#[derive(Drop)]
+pub struct Text {
+    bytes: [u8; 65536],
+    length: usize,
 }
 
-// The last `count` digits of n, and the byte `after` them.
-fn digits(out: &mut [u8; 65536], at: usize, count: usize, n: u64, after: u8) -> usize
-    requires { at + count < 65536 }
-    ensures { result ≡ at + count + 1 }
-{
-    let mut i = count;
-    let mut rest = n;
-    while i > 0 {
-        i -= 1;
-        out[at + i] = digit(rest % 16);
-        rest /= 16;
+// A clause sees the bytes that wait.
+impl Model for Text {
+    ghost use Rattle.std.specs.Prelude.{◌≤◌, ℕ, List, take};
+
+    ghost Value = { List ℕ };
+
+    ghost view = { λ t. take t.length t.bytes };
+
+    ghost invariant = { λ t. t.length ≤ 65536 };
+}
+
+impl Text {
+    pub fn new() -> Self
+        ensures { result ≡ [] }
+    {
+        Self {
+            bytes: [0; 65536],
+            length: 0,
+        }
     }
-    out[at + count] = after;
-    at + count + 1
-}
 
-// The last number of a word.
-pub fn put(out: &mut [u8; 65536], at: usize, count: usize, n: u64) -> usize
-    requires { at + count < 65536 }
-    ensures { result ≡ at + count + 1 }
-{
-    digits(out, at, count, n, b' ')
-}
-
-// A number of a word that goes on.
-pub fn begin(out: &mut [u8; 65536], at: usize, count: usize, n: u64) -> usize
-    requires { at + count < 65536 }
-    ensures { result ≡ at + count + 1 }
-{
-    digits(out, at, count, n, b':')
-}
-
-pub fn put_u32(out: &mut [u8; 65536], at: usize, n: u32) -> usize
-    requires { at + 8 < 65536 }
-    ensures { result ≡ at + 9 }
-{
-    put(out, at, 8, n as u64)
-}
-
-pub fn put_u64(out: &mut [u8; 65536], at: usize, n: u64) -> usize
-    requires { at + 16 < 65536 }
-    ensures { result ≡ at + 17 }
-{
-    put(out, at, 16, n)
-}
-
-pub fn put_f32(out: &mut [u8; 65536], at: usize, x: f32) -> usize
-    requires { at + 8 < 65536 }
-    ensures { result ≡ at + 9 }
-{
-    put_u32(out, at, binary32::to_bits(x))
-}
-
-pub fn begin_f32(out: &mut [u8; 65536], at: usize, x: f32) -> usize
-    requires { at + 8 < 65536 }
-    ensures { result ≡ at + 9 }
-{
-    begin(out, at, 8, binary32::to_bits(x) as u64)
-}
-
-pub fn put_bool(out: &mut [u8; 65536], at: usize, b: bool) -> usize
-    requires { at + 1 < 65536 }
-    ensures { result ≡ at + 2 }
-{
-    if b {
-        put(out, at, 1, 1)
-    } else {
-        put(out, at, 1, 0)
+    // As many of the bytes as there is room for.
+    fn add(&mut self, bytes: &[u8])
+        ensures { length self.new ≡ min (length self.old + length bytes.now) 65536 }
+    {
+        let n = bytes.len().min(65536 - self.length);
+        self.bytes[self.length..self.length + n].copy_from_slice(&bytes[..n]);
+        self.length += n;
     }
-}
 
-// The line's end takes the place of its last space.
-pub fn end(out: &mut [u8; 65536], at: usize) -> usize
-    requires at_nonzero { 0 < at }
-    requires at_bound { at ≤ 65536 }
-    ensures { result ≡ at }
-{
-    out[at - 1] = b'\n';
-    at
+    // A letter as a word.
+    pub fn tag(&mut self, letter: u8)
+        ensures { length self.new ≡ min (length self.old + 2) 65536 }
+    {
+        self.add(&[letter, b' '])
+    }
+
+    // The last N digits of n, and the byte `after` them. (Tried by `{:X}`: three times as slow; the edit digit_of_16 is of
+    // `digit`.)
+    fn digits<const N: usize>(&mut self, n: u64, after: u8)
+        requires { N ≤ 16 }
+        ensures { length self.new ≡ min (length self.old + N + 1) 65536 }
+    {
+        let mut digits = [b'0'; N];
+        let mut rest = n;
+        for place in digits.iter_mut().rev() {
+            *place = digit(rest % 16);
+            rest /= 16;
+        }
+        self.add(&digits);
+        self.add(&[after]);
+    }
+
+    // The last number of a word.
+    pub fn put<const N: usize>(&mut self, n: u64)
+        requires { N ≤ 16 }
+        ensures { length self.new ≡ min (length self.old + N + 1) 65536 }
+    {
+        self.digits::<N>(n, b' ')
+    }
+
+    // A number of a word that goes on.
+    pub fn begin<const N: usize>(&mut self, n: u64)
+        requires { N ≤ 16 }
+        ensures { length self.new ≡ min (length self.old + N + 1) 65536 }
+    {
+        self.digits::<N>(n, b':')
+    }
+
+    pub fn put_u8(&mut self, n: u8)
+        ensures { length self.new ≡ min (length self.old + 3) 65536 }
+    {
+        self.put::<2>(n as u64)
+    }
+
+    pub fn put_u32(&mut self, n: u32)
+        ensures { length self.new ≡ min (length self.old + 9) 65536 }
+    {
+        self.put::<8>(n as u64)
+    }
+
+    pub fn put_u64(&mut self, n: u64)
+        ensures { length self.new ≡ min (length self.old + 17) 65536 }
+    {
+        self.put::<16>(n)
+    }
+
+    pub fn put_usize(&mut self, n: usize)
+        ensures { length self.new ≡ min (length self.old + 17) 65536 }
+    {
+        self.put::<16>(n as u64)
+    }
+
+    pub fn put_f32(&mut self, x: f32)
+        ensures { length self.new ≡ min (length self.old + 9) 65536 }
+    {
+        self.put_u32(binary32::to_bits(x))
+    }
+
+    pub fn begin_f32(&mut self, x: f32)
+        ensures { length self.new ≡ min (length self.old + 9) 65536 }
+    {
+        self.begin::<8>(binary32::to_bits(x) as u64)
+    }
+
+    pub fn put_bool(&mut self, b: bool)
+        ensures { length self.new ≡ min (length self.old + 2) 65536 }
+    {
+        self.put::<1>(b as u64)
+    }
+
+    // The line's end takes the place of its last space, where there is one.
+    pub fn end(&mut self)
+        ensures { length self.new ≡ length self.old - 1 + 1 }
+    {
+        self.length = self.length.saturating_sub(1);
+        self.add(b"\n");
+    }
+
+    // Writes what waits once it is long.
+    pub fn spill(&mut self, rt: &impl Print)
+        ensures bound { length self.new ≤ 32768 }
+        ensures no_longer { length self.new ≤ length self.old }
+    {
+        if self.length > 32768 {
+            self.write(rt);
+        }
+    }
+
+    // Writes what waits to standard output. Whether that could be done.
+    pub fn write(&mut self, rt: &impl Print) -> bool
+        ensures { self.new ≡ [] }
+    {
+        let written = rt.write_all(&self.bytes[..self.length]).is_ok();
+        self.length = 0;
+        written
+    }
 }
 
 fn digit(d: u64) -> u8
     requires { d < 16 }
 {
     if d < 10 { 48 + d as u8 } else { 55 + d as u8 }
-}
-
-// Writes the first `size` bytes of text to standard output.
-pub fn write(rt: &impl Print, out: &[u8; 65536], size: usize) -> bool
-    requires { size ≤ 65536 }
-{
-    let text = &out[..];
-    rt.write_all(&text[..size]).is_ok()
 }

@@ -2,18 +2,14 @@
 // (modes in the order of their declaration, length kinds as in the listing's version 2, and each byte above the last is
 // taken for the last); floats volume at 16, value at 20, rate at 24, tempo at 28; whole numbers numerator at 32,
 // denominator at 36, attack at 40, decay at 48; floats speed at 56 and reverse speed at 60.
-ghost use Rattle.std.specs.Prelude.{◌≤◌, length};
-
-use crate::field::{f32_at, u32_at, u64_at};
+use crate::field::{Record, f32_at, u32_at, usize_at};
 use common_types::time_value::{TimeOrRatio, TimeValue};
 use common_types::{LoopMode, NoteOffBehaviour, Params, Transport};
 
-pub fn params_of(fields: &[u8]) -> Params
-    requires { 64 ≤ length fields.now }
-{
+pub fn params_of(fields: &Record) -> Params {
     Params {
-        attack_samples: u64_at(fields, 40) as usize,
-        decay_samples: u64_at(fields, 48) as usize,
+        attack_samples: usize_at(fields, 40),
+        decay_samples: usize_at(fields, 48),
         transport: transport(fields),
         loop_length: loop_length(fields[4], f32_at(fields, 20)),
         speed: f32_at(fields, 56),
@@ -25,9 +21,7 @@ pub fn params_of(fields: &[u8]) -> Params
     }
 }
 
-pub fn transport(fields: &[u8]) -> Transport
-    requires { 64 ≤ length fields.now }
-{
+pub fn transport(fields: &Record) -> Transport {
     Transport {
         sample_rate: f32_at(fields, 24),
         tempo: f32_at(fields, 28),
@@ -36,6 +30,7 @@ pub fn transport(fields: &[u8]) -> Transport
     }
 }
 
+// By number, as the Rust's side writes it into a record; so are the two modes.
 fn loop_length(kind: u8, value: f32) -> TimeOrRatio {
     match kind {
         0 => TimeOrRatio::Time(TimeValue::quarter_notes(value)),

@@ -2,68 +2,44 @@
 // data length, 4 all of them) and new mode at 3; floats start at 4, speed at 8, length at 12, data length at 16, shift at
 // 20, x (a place in the data) at 24, value (a new speed or length, of all four the length) at 28; whole numbers since at
 // 32, now at 40, later at 48; of all four the new speed at 56 and data length at 60.
-ghost use Rattle.std.specs.Prelude.{◌≡◌, ◌+◌, ◌≤◌, ◌<◌, length};
+ghost use Rattle.std.specs.Prelude.{◌≡◌, ◌+◌, length, min};
 
-use clip::{
-    Clip, ClipAnswer, ElapsedAnswer, Found, FoundAnswer, Mode, PlaceAnswer, Position,
-    PositionAnswer, ReversingAnswer,
-};
-use oracle_lines::field::{f32_at, u64_at};
-use oracle_lines::line::{begin, begin_f32, end, put, put_bool, put_f32, put_u64};
+use clip::{Clip, Mode, Position};
+use oracle_lines::field::{Record, f32_at, usize_at};
+use oracle_lines::line::Text;
+use refusals::Refusal;
 
-pub fn answer(fields: &[u8], out: &mut [u8; 65536], at: usize) -> usize
-    requires in_bounds { 64 ≤ length fields.now }
-    requires at_bound { at + 512 ≤ 65536 }
-    ensures { result ≡ at + 272 }
+pub fn answer(fields: &Record, out: &mut Text)
+    ensures { length out.new ≡ min (length out.old + 272) 65536 }
 {
     let c = clip_of(fields);
-    let first = as_it_is(fields, out, at, c);
-    let second = after_update(fields, out, first, c);
-    end(out, second)
-}
-
-fn as_it_is(fields: &[u8], out: &mut [u8; 65536], at: usize, c: Clip) -> usize
-    requires in_bounds { 64 ≤ length fields.now }
-    requires at_bound { at + 169 ≤ 65536 }
-    ensures { result ≡ at + 169 }
-{
-    let first = put_change(out, at, made(c));
-    let second = read(out, first, c, u64_at(fields, 40) as usize);
-    put_found(out, second, c.data_to_clip(f32_at(fields, 24)))
-}
-
-// The clip after one of the updates, and its position later.
-fn after_update(fields: &[u8], out: &mut [u8; 65536], at: usize, c: Clip) -> usize
-    requires in_bounds { 64 ≤ length fields.now }
-    requires at_bound { at + 103 ≤ 65536 }
-    ensures { result ≡ at + 103 }
-{
-    let a = update(fields, c, u64_at(fields, 40) as usize);
-    let d = updated(c, a);
-    let first = put_change(out, at, a);
-    put_position(out, first, d.offset(u64_at(fields, 48) as usize))
+    let now = usize_at(fields, 40);
+    let changed = update(fields, c, now);
+    put_change(out, made(c));
+    put_at(out, c, now);
+    put_found(out, c.data_to_clip(f32_at(fields, 24)));
+    put_change(out, changed);
+    // Where the update was refused, the clip is itself.
+    put_position(out, changed.unwrap_or(c).offset(usize_at(fields, 48)));
+    out.end()
 }
 
 // What is asked of a clip at a time.
-fn read(out: &mut [u8; 65536], at: usize, c: Clip, now: usize) -> usize
-    requires { at + 90 ≤ 65536 }
-    ensures { result ≡ at + 90 }
+fn put_at(out: &mut Text, c: Clip, now: usize)
+    ensures { length out.new ≡ min (length out.old + 90) 65536 }
 {
-    let first = put_elapsed(out, at, c.elapsed(now));
-    let second = put_offset(out, first, c.clip_offset(now));
-    let third = put_position(out, second, c.offset(now));
-    let fourth = put_next(out, third, c, now);
-    put_reversing(out, fourth, c.is_pingpong_reversing(now))
+    put_elapsed(out, c.elapsed(now));
+    put_offset(out, c.clip_offset(now));
+    put_position(out, c.offset(now));
+    put_next(out, c, now);
+    put_reversing(out, c.is_pingpong_reversing(now))
 }
 
-fn made(c: Clip) -> ClipAnswer {
-    let mode = c.mode;
-    Clip::new(c.since, c.start, c.speed, c.length, c.data_length, mode)
+fn made(c: Clip) -> Result<Clip, Refusal> {
+    Clip::new(c.since, c.start, c.speed, c.length, c.data_length, c.mode)
 }
 
-fn update(fields: &[u8], c: Clip, time: usize) -> ClipAnswer
-    requires { 64 ≤ length fields.now }
-{
+fn update(fields: &Record, c: Clip, time: usize) -> Result<Clip, Refusal> {
     let value = f32_at(fields, 28);
     match fields[2] {
         0 => c.update_speed(time, value),
@@ -80,142 +56,89 @@ fn update(fields: &[u8], c: Clip, time: usize) -> ClipAnswer
     }
 }
 
-// The clip after an update: itself, where it was refused.
-fn updated(c: Clip, a: ClipAnswer) -> Clip {
-    match a {
-        ClipAnswer::Done(d) => d,
-        ClipAnswer::Refused => c,
-    }
-}
-
 // Each of these puts document 01's number for the answer, and then its values.
-fn put_change(out: &mut [u8; 65536], at: usize, a: ClipAnswer) -> usize
-    requires { at + 66 ≤ 65536 }
-    ensures { result ≡ at + 66 }
+fn put_change(out: &mut Text, a: Result<Clip, Refusal>)
+    ensures { length out.new ≡ min (length out.old + 66) 65536 }
 {
-    match a {
-        ClipAnswer::Done(c) => put_clip(out, at, 0, c),
-        ClipAnswer::Refused => put_clip(out, at, 7, no_clip()),
-    }
+    let (number, c) = match a {
+        Ok(c) => (0, c),
+        Err(refusal) => (refusal.number(), no_clip()),
+    };
+    out.begin::<1>(number as u64);
+    out.begin::<16>(c.since as u64);
+    out.begin_f32(c.start);
+    out.begin_f32(c.speed);
+    out.begin_f32(c.length);
+    out.begin_f32(c.data_length);
+    out.begin_f32(by_value(c.shift));
+    out.put::<1>(mode_number(c.mode))
 }
 
-fn put_clip(out: &mut [u8; 65536], at: usize, number: u64, c: Clip) -> usize
-    requires { at + 66 ≤ 65536 }
-    ensures { result ≡ at + 66 }
+fn put_elapsed(out: &mut Text, a: Result<usize, Refusal>)
+    ensures { length out.new ≡ min (length out.old + 19) 65536 }
 {
-    let mode = c.mode;
-    let first = begin(out, at, 1, number);
-    let second = begin(out, first, 16, c.since as u64);
-    let third = begin_f32(out, second, c.start);
-    let fourth = begin_f32(out, third, c.speed);
-    let fifth = begin_f32(out, fourth, c.length);
-    let sixth = begin_f32(out, fifth, c.data_length);
-    let seventh = begin_f32(out, sixth, by_value(c.shift));
-    put(out, seventh, 1, mode_number(mode))
-}
-
-fn put_elapsed(out: &mut [u8; 65536], at: usize, a: ElapsedAnswer) -> usize
-    requires { at + 19 ≤ 65536 }
-    ensures { result ≡ at + 19 }
-{
-    match a {
-        ElapsedAnswer::Done(n) => put_count(out, at, 0, n),
-        ElapsedAnswer::Refused => put_count(out, at, 7, 0),
-    }
+    let (number, n) = match a {
+        Ok(n) => (0, n),
+        Err(refusal) => (refusal.number(), 0),
+    };
+    out.begin::<1>(number as u64);
+    out.put_usize(n)
 }
 
 // The next index (request 7/12), where there is a position.
-fn put_next(out: &mut [u8; 65536], at: usize, c: Clip, now: usize) -> usize
-    requires { at + 19 ≤ 65536 }
-    ensures { result ≡ at + 19 }
+fn put_next(out: &mut Text, c: Clip, now: usize)
+    ensures { length out.new ≡ min (length out.old + 19) 65536 }
 {
-    match c.offset(now) {
-        PositionAnswer::Done(_) => put_count(out, at, 0, c.next_at(now)),
-        PositionAnswer::Refused => put_count(out, at, 7, 0),
-    }
+    put_elapsed(out, c.offset(now).map(|_| c.next_at(now)))
 }
 
-fn put_count(out: &mut [u8; 65536], at: usize, number: u64, n: usize) -> usize
-    requires { at + 19 ≤ 65536 }
-    ensures { result ≡ at + 19 }
+fn put_offset(out: &mut Text, a: Result<f32, Refusal>)
+    ensures { length out.new ≡ min (length out.old + 11) 65536 }
 {
-    let first = begin(out, at, 1, number);
-    put_u64(out, first, n as u64)
-}
-
-fn put_offset(out: &mut [u8; 65536], at: usize, a: PlaceAnswer) -> usize
-    requires { at + 11 ≤ 65536 }
-    ensures { result ≡ at + 11 }
-{
-    match a {
-        PlaceAnswer::Done(x) => {
-            let first = begin(out, at, 1, 0);
-            put_f32(out, first, by_value(x))
-        }
-        PlaceAnswer::Refused => {
-            let first = begin(out, at, 1, 7);
-            put_f32(out, first, 0.0)
-        }
-    }
-}
-
-fn put_position(out: &mut [u8; 65536], at: usize, a: PositionAnswer) -> usize
-    requires { at + 37 ≤ 65536 }
-    ensures { result ≡ at + 37 }
-{
-    match a {
-        PositionAnswer::Done(p) => put_parts(out, at, 0, p),
-        PositionAnswer::Refused => put_parts(out, at, 7, no_position()),
-    }
+    let (number, x) = match a {
+        Ok(x) => (0, x),
+        Err(refusal) => (refusal.number(), 0.0),
+    };
+    out.begin::<1>(number as u64);
+    out.put_f32(by_value(x))
 }
 
 // What index and fraction add up to, and the two of them.
-fn put_parts(out: &mut [u8; 65536], at: usize, number: u64, p: Position) -> usize
-    requires { at + 37 ≤ 65536 }
-    ensures { result ≡ at + 37 }
+fn put_position(out: &mut Text, a: Result<Position, Refusal>)
+    ensures { length out.new ≡ min (length out.old + 37) 65536 }
 {
-    let first = begin(out, at, 1, number);
-    let second = begin_f32(out, first, by_value(p.sum()));
-    let third = begin(out, second, 16, p.index as u64);
-    put_f32(out, third, p.fraction)
+    let (number, p) = match a {
+        Ok(p) => (0, p),
+        Err(refusal) => (refusal.number(), no_position()),
+    };
+    out.begin::<1>(number as u64);
+    out.begin_f32(by_value(p.sum()));
+    out.begin::<16>(p.index as u64);
+    out.put_f32(p.fraction)
 }
 
-fn put_reversing(out: &mut [u8; 65536], at: usize, a: ReversingAnswer) -> usize
-    requires { at + 4 ≤ 65536 }
-    ensures { result ≡ at + 4 }
+fn put_reversing(out: &mut Text, a: Result<bool, Refusal>)
+    ensures { length out.new ≡ min (length out.old + 4) 65536 }
 {
-    match a {
-        ReversingAnswer::Done(b) => {
-            let first = begin(out, at, 1, 0);
-            put_bool(out, first, b)
-        }
-        ReversingAnswer::Refused => {
-            let first = begin(out, at, 1, 7);
-            put_bool(out, first, false)
-        }
-    }
+    let (number, reversing) = match a {
+        Ok(b) => (0, b),
+        Err(refusal) => (refusal.number(), false),
+    };
+    out.begin::<1>(number as u64);
+    out.put_bool(reversing)
 }
 
-fn put_found(out: &mut [u8; 65536], at: usize, a: FoundAnswer) -> usize
-    requires { at + 13 ≤ 65536 }
-    ensures { result ≡ at + 13 }
+// Whether there is a place, and the place.
+fn put_found(out: &mut Text, a: Result<Option<f32>, Refusal>)
+    ensures { length out.new ≡ min (length out.old + 13) 65536 }
 {
-    match a {
-        FoundAnswer::Done(found) => match found {
-            Found::At(y) => put_place(out, at, 0, 1, by_value(y)),
-            Found::Nothing => put_place(out, at, 0, 0, 0.0),
-        },
-        FoundAnswer::Refused => put_place(out, at, 7, 0, 0.0),
-    }
-}
-
-fn put_place(out: &mut [u8; 65536], at: usize, number: u64, found: u64, y: f32) -> usize
-    requires { at + 13 ≤ 65536 }
-    ensures { result ≡ at + 13 }
-{
-    let first = begin(out, at, 1, number);
-    let second = begin(out, first, 1, found);
-    put_f32(out, second, y)
+    let (number, found) = match a {
+        Ok(found) => (0, found),
+        Err(refusal) => (refusal.number(), None),
+    };
+    out.begin::<1>(number as u64);
+    out.begin::<1>(found.is_some() as u64);
+    out.put_f32(by_value(found.unwrap_or(0.0)))
 }
 
 // Positions and shifts are compared by value: a zero of either sign is one number.
@@ -223,11 +146,9 @@ fn by_value(x: f32) -> f32 {
     if x == 0.0 { 0.0 } else { x }
 }
 
-fn clip_of(fields: &[u8]) -> Clip
-    requires { 64 ≤ length fields.now }
-{
+fn clip_of(fields: &Record) -> Clip {
     Clip {
-        since: u64_at(fields, 32) as usize,
+        since: usize_at(fields, 32),
         start: f32_at(fields, 4),
         speed: f32_at(fields, 8),
         length: f32_at(fields, 12),
@@ -257,6 +178,7 @@ fn no_clip() -> Clip {
     }
 }
 
+// By number, as the Rust's side writes it into a record, and as it prints it.
 fn mode_of(index: u8) -> Mode {
     match index {
         0 => Mode::Loop,

@@ -1,102 +1,78 @@
 // Part 2: volume. The arguments: at 1 a byte, 0 for a steady level and 1 for a ramp; whole numbers start at 8, end at
 // 16, now at 24, duration at 32; floats from at 40 (also the steady level), till at 44, target at 48; a whole number
 // later at 56.
-ghost use Rattle.std.specs.Prelude.{◌≡◌, ◌+◌, ◌≤◌, ◌<◌, length};
+ghost use Rattle.std.specs.Prelude.{◌≡◌, ◌+◌, length, min};
 
-use oracle_lines::field::{f32_at, u64_at};
-use oracle_lines::level::{put_ramp, put_volume};
-use oracle_lines::line::{begin, end, put_bool, put_f32};
-use volume::{LevelAnswer, Volume, VolumeAnswer};
+use oracle_lines::field::{Record, f32_at, usize_at};
+use oracle_lines::line::Text;
+use refusals::Refusal;
+use volume::Volume;
 
-pub fn answer(fields: &[u8], out: &mut [u8; 65536], at: usize) -> usize
-    requires in_bounds { 64 ≤ length fields.now }
-    requires at_bound { at + 512 ≤ 65536 }
-    ensures { result ≡ at + 302 }
+pub fn answer(fields: &Record, out: &mut Text)
+    ensures { length out.new ≡ min (length out.old + 302) 65536 }
 {
     let v = volume_of(fields);
-    let now = u64_at(fields, 24) as usize;
-    let later = u64_at(fields, 56) as usize;
+    let now = usize_at(fields, 24);
     let target = f32_at(fields, 48);
-    let first = set(out, at, v, target);
-    let second = read(out, first, v, now);
-    let moved = v.to(now, u64_at(fields, 32) as usize, target);
-    let third = put_change(out, second, moved);
-    let fourth = read(out, third, changed(v, moved), later);
-    end(out, fourth)
+    let moved = v.to(now, usize_at(fields, 32), target);
+    put_set(out, v, target);
+    put_at(out, v, now);
+    put_change(out, moved);
+    // Where the change was refused, the volume is itself.
+    put_at(out, moved.unwrap_or(v), usize_at(fields, 56));
+    out.end()
 }
 
 // What needs no time.
-fn set(out: &mut [u8; 65536], at: usize, v: Volume, target: f32) -> usize
-    requires { at + 112 ≤ 65536 }
-    ensures { result ≡ at + 112 }
+fn put_set(out: &mut Text, v: Volume, target: f32)
+    ensures { length out.new ≡ min (length out.old + 112) 65536 }
 {
-    let first = put_bool(out, at, v.is_static());
-    let second = put_bool(out, first, v.is_static_and_mute());
-    let third = put_volume(out, second, Volume::new(target));
-    put_volume(out, third, v.set(target))
+    out.put_bool(v.is_static());
+    out.put_bool(v.is_static_and_mute());
+    out.put_volume(Volume::new(target));
+    out.put_volume(v.set(target))
 }
 
 // The level at a time, and the volume after a step at it.
-fn read(out: &mut [u8; 65536], at: usize, v: Volume, now: usize) -> usize
-    requires { at + 67 ≤ 65536 }
-    ensures { result ≡ at + 67 }
+fn put_at(out: &mut Text, v: Volume, now: usize)
+    ensures { length out.new ≡ min (length out.old + 67) 65536 }
 {
-    let first = put_level(out, at, v.value(now));
-    put_change(out, first, v.step(now))
-}
-
-// The volume after a change: itself, where it was refused.
-fn changed(v: Volume, a: VolumeAnswer) -> Volume {
-    match a {
-        VolumeAnswer::Done(w) => w,
-        VolumeAnswer::Refused => v,
-    }
+    put_level(out, v.value(now));
+    put_change(out, v.step(now))
 }
 
 // Document 01's number for the answer, and the level.
-fn put_level(out: &mut [u8; 65536], at: usize, a: LevelAnswer) -> usize
-    requires { at + 11 ≤ 65536 }
-    ensures { result ≡ at + 11 }
+fn put_level(out: &mut Text, a: Result<f32, Refusal>)
+    ensures { length out.new ≡ min (length out.old + 11) 65536 }
 {
-    match a {
-        LevelAnswer::Done(x) => {
-            let first = begin(out, at, 1, 0);
-            put_f32(out, first, x)
-        }
-        LevelAnswer::Refused => {
-            let first = begin(out, at, 1, 7);
-            put_f32(out, first, 0.0)
-        }
-    }
+    let (number, x) = match a {
+        Ok(x) => (0, x),
+        Err(refusal) => (refusal.number(), 0.0),
+    };
+    out.begin::<1>(number as u64);
+    out.put_f32(x)
 }
 
 // Document 01's number for the answer, and the volume.
-fn put_change(out: &mut [u8; 65536], at: usize, a: VolumeAnswer) -> usize
-    requires { at + 56 ≤ 65536 }
-    ensures { result ≡ at + 56 }
+fn put_change(out: &mut Text, a: Result<Volume, Refusal>)
+    ensures { length out.new ≡ min (length out.old + 56) 65536 }
 {
-    match a {
-        VolumeAnswer::Done(v) => {
-            let first = begin(out, at, 1, 0);
-            put_volume(out, first, v)
-        }
-        VolumeAnswer::Refused => {
-            let first = begin(out, at, 1, 7);
-            put_ramp(out, first, 0, 0, 0, 0.0, 0.0)
-        }
-    }
+    let (number, v) = match a {
+        Ok(v) => (0, v),
+        Err(refusal) => (refusal.number(), Volume::Static(0.0)),
+    };
+    out.begin::<1>(number as u64);
+    out.put_volume(v)
 }
 
-fn volume_of(fields: &[u8]) -> Volume
-    requires { 64 ≤ length fields.now }
-{
+fn volume_of(fields: &Record) -> Volume {
     let from = f32_at(fields, 40);
     if fields[1] == 0 {
         return Volume::Static(from);
     }
     Volume::Linear {
-        time_start: u64_at(fields, 8) as usize,
-        time_end: u64_at(fields, 16) as usize,
+        time_start: usize_at(fields, 8),
+        time_end: usize_at(fields, 16),
         value_start: from,
         value_end: f32_at(fields, 44),
     }

@@ -3,176 +3,140 @@
 // listing's version 2); a whole number n at 8, which is a packed note, an index and a data length; floats x at 16, value at
 // 20, rate at 24, tempo at 28; whole numbers numerator at 32, denominator at 36, attack at 40, decay at 48; floats
 // speed at 56 and reverse speed at 60.
-ghost use Rattle.std.specs.Prelude.{◌≡◌, ◌+◌, ◌≤◌, ◌<◌, length};
+ghost use Rattle.std.specs.Prelude.{◌≡◌, ◌+◌, length, min};
 
-use common_types::time_value::{TimeOrRatio, TimeUnit, TimeValue};
-use common_types::{LoopMode, LoopModeAnswer, Note, NoteOffBehaviour, NoteOffBehaviourAnswer};
-use oracle_lines::field::{f32_at, u64_at};
-use oracle_lines::line::{begin, end, put, put_bool, put_f32, put_u64};
+use common_types::time_value::{
+    TimeOrRatio, TimeUnit, TimeValue, calc_quarter_notes_per_bar, calc_samples_per_bar,
+    calc_samples_per_quarter_note,
+};
+use common_types::{LoopMode, Note, NoteOffBehaviour};
+use oracle_lines::field::{Record, f32_at, u64_at, usize_at};
+use oracle_lines::line::Text;
 use oracle_lines::settings::{loop_mode, note_off, params_of, transport};
+use refusals::Refusal;
 
-pub fn answer(fields: &[u8], out: &mut [u8; 65536], at: usize) -> usize
-    requires in_bounds { 64 ≤ length fields.now }
-    requires at_bound { at + 512 ≤ 65536 }
-    ensures { result ≡ at + 134 }
+pub fn answer(fields: &Record, out: &mut Text)
+    ensures { length out.new ≡ min (length out.old + 134) 65536 }
 {
-    let first = notes(fields, out, at);
-    let second = loop_modes(fields, out, first);
-    let third = note_off_modes(fields, out, second);
-    let fourth = times(fields, out, third);
-    let fifth = params(fields, out, fourth);
-    end(out, fifth)
+    put_notes(fields, out);
+    put_loop_modes(fields, out);
+    put_note_off_modes(fields, out);
+    put_times(fields, out);
+    put_params(fields, out);
+    out.end()
 }
 
-fn notes(fields: &[u8], out: &mut [u8; 65536], at: usize) -> usize
-    requires in_bounds { 64 ≤ length fields.now }
-    requires at_bound { at + 29 ≤ 65536 }
-    ensures { result ≡ at + 29 }
+fn put_notes(fields: &Record, out: &mut Text)
+    ensures { length out.new ≡ min (length out.old + 29) 65536 }
 {
     let note = Note::new(fields[1], fields[2]);
-    let first = put_note(out, at, note);
-    let second = put_u64(out, first, note.into_u64());
-    put_note(out, second, Note::from_u64(u64_at(fields, 8)))
+    put_note(out, note);
+    out.put_u64(u64::from(note));
+    put_note(out, Note::from(u64_at(fields, 8)))
 }
 
-fn put_note(out: &mut [u8; 65536], at: usize, note: Note) -> usize
-    requires { at + 6 ≤ 65536 }
-    ensures { result ≡ at + 6 }
+fn put_note(out: &mut Text, note: Note)
+    ensures { length out.new ≡ min (length out.old + 6) 65536 }
 {
-    let first = begin(out, at, 2, note.note as u64);
-    put(out, first, 2, note.channel as u64)
+    out.begin::<2>(note.note as u64);
+    out.put_u8(note.channel)
 }
 
-fn loop_modes(fields: &[u8], out: &mut [u8; 65536], at: usize) -> usize
-    requires in_bounds { 64 ≤ length fields.now }
-    requires at_bound { at + 19 ≤ 65536 }
-    ensures { result ≡ at + 19 }
+fn put_loop_modes(fields: &Record, out: &mut Text)
+    ensures { length out.new ≡ min (length out.old + 19) 65536 }
 {
     let mode = loop_mode(fields[5]);
-    let first = put(out, at, 1, mode.to_index() as u64);
-    let second = put_f32(out, first, mode.to_f32());
-    let third = put_loop_mode(
+    out.put::<1>(mode.to_index() as u64);
+    out.put_f32(mode.to_f32());
+    put_index(
         out,
-        second,
-        LoopMode::from_index(u64_at(fields, 8) as usize),
+        LoopMode::from_index(usize_at(fields, 8)).map(|mode| mode.to_index()),
     );
-    put_loop_mode(out, third, LoopMode::from_f32(f32_at(fields, 16)))
-}
-
-// Document 01's number for the answer, and the mode's index.
-fn put_loop_mode(out: &mut [u8; 65536], at: usize, a: LoopModeAnswer) -> usize
-    requires { at + 4 ≤ 65536 }
-    ensures { result ≡ at + 4 }
-{
-    match a {
-        LoopModeAnswer::Done(mode) => put_index(out, at, 0, mode.to_index()),
-        LoopModeAnswer::Refused => put_index(out, at, 7, 0),
-    }
-}
-
-fn note_off_modes(fields: &[u8], out: &mut [u8; 65536], at: usize) -> usize
-    requires in_bounds { 64 ≤ length fields.now }
-    requires at_bound { at + 19 ≤ 65536 }
-    ensures { result ≡ at + 19 }
-{
-    let mode = note_off(fields[6]);
-    let first = put(out, at, 1, mode.to_index() as u64);
-    let second = put_f32(out, first, mode.to_f32());
-    let third = put_note_off(
+    put_index(
         out,
-        second,
-        NoteOffBehaviour::from_index(u64_at(fields, 8) as usize),
-    );
-    put_note_off(out, third, NoteOffBehaviour::from_f32(f32_at(fields, 16)))
-}
-
-fn put_note_off(out: &mut [u8; 65536], at: usize, a: NoteOffBehaviourAnswer) -> usize
-    requires { at + 4 ≤ 65536 }
-    ensures { result ≡ at + 4 }
-{
-    match a {
-        NoteOffBehaviourAnswer::Done(mode) => put_index(out, at, 0, mode.to_index()),
-        NoteOffBehaviourAnswer::Refused => put_index(out, at, 7, 0),
-    }
-}
-
-fn put_index(out: &mut [u8; 65536], at: usize, number: u64, index: usize) -> usize
-    requires { at + 4 ≤ 65536 }
-    ensures { result ≡ at + 4 }
-{
-    let first = begin(out, at, 1, number);
-    put(out, first, 1, index as u64)
-}
-
-fn times(fields: &[u8], out: &mut [u8; 65536], at: usize) -> usize
-    requires in_bounds { 64 ≤ length fields.now }
-    requires at_bound { at + 47 ≤ 65536 }
-    ensures { result ≡ at + 47 }
-{
-    let t = transport(fields);
-    let time = TimeValue::from_unit_value(unit(fields[3]), f32_at(fields, 20));
-    let first = put_time(out, at, time);
-    let second = put_f32(out, first, time.as_samples(t));
-    let third = put_f32(
-        out,
-        second,
-        common_types::time_value::calc_quarter_notes_per_bar(t),
-    );
-    let fourth = put_f32(
-        out,
-        third,
-        common_types::time_value::calc_samples_per_quarter_note(t),
-    );
-    put_f32(
-        out,
-        fourth,
-        common_types::time_value::calc_samples_per_bar(t),
+        LoopMode::from_f32(f32_at(fields, 16)).map(|mode| mode.to_index()),
     )
 }
 
+fn put_note_off_modes(fields: &Record, out: &mut Text)
+    ensures { length out.new ≡ min (length out.old + 19) 65536 }
+{
+    let mode = note_off(fields[6]);
+    out.put::<1>(mode.to_index() as u64);
+    out.put_f32(mode.to_f32());
+    put_index(
+        out,
+        NoteOffBehaviour::from_index(usize_at(fields, 8)).map(|mode| mode.to_index()),
+    );
+    put_index(
+        out,
+        NoteOffBehaviour::from_f32(f32_at(fields, 16)).map(|mode| mode.to_index()),
+    )
+}
+
+// Document 01's number for the answer, and the mode's index.
+fn put_index(out: &mut Text, a: Result<usize, Refusal>)
+    ensures { length out.new ≡ min (length out.old + 4) 65536 }
+{
+    let (number, index) = match a {
+        Ok(index) => (0, index),
+        Err(refusal) => (refusal.number(), 0),
+    };
+    out.begin::<1>(number as u64);
+    out.put::<1>(index as u64)
+}
+
+fn put_times(fields: &Record, out: &mut Text)
+    ensures { length out.new ≡ min (length out.old + 47) 65536 }
+{
+    let t = transport(fields);
+    let time = TimeValue::from_unit_value(unit(fields[3]), f32_at(fields, 20));
+    put_time(out, time);
+    out.put_f32(time.as_samples(t));
+    out.put_f32(calc_quarter_notes_per_bar(t));
+    out.put_f32(calc_samples_per_quarter_note(t));
+    out.put_f32(calc_samples_per_bar(t))
+}
+
 // The length kind of the listing, and the value.
-fn put_time(out: &mut [u8; 65536], at: usize, time: TimeValue) -> usize
-    requires { at + 11 ≤ 65536 }
-    ensures { result ≡ at + 11 }
+fn put_time(out: &mut Text, time: TimeValue)
+    ensures { length out.new ≡ min (length out.old + 11) 65536 }
 {
     match time {
-        TimeValue::QuarterNotes(x) => put_kind(out, at, 0, x),
-        TimeValue::Samples(x) => put_kind(out, at, 1, x),
-        TimeValue::Seconds(x) => put_kind(out, at, 2, x),
-        TimeValue::Bars(x) => put_kind(out, at, 3, x),
+        TimeValue::QuarterNotes(x) => put_kind(out, 0, x),
+        TimeValue::Samples(x) => put_kind(out, 1, x),
+        TimeValue::Seconds(x) => put_kind(out, 2, x),
+        TimeValue::Bars(x) => put_kind(out, 3, x),
     }
 }
 
-pub fn put_length(out: &mut [u8; 65536], at: usize, length: TimeOrRatio) -> usize
-    requires { at + 11 ≤ 65536 }
-    ensures { result ≡ at + 11 }
+pub fn put_length(out: &mut Text, of: TimeOrRatio)
+    ensures { length out.new ≡ min (length out.old + 11) 65536 }
 {
-    match length {
-        TimeOrRatio::Time(time) => put_time(out, at, time),
-        TimeOrRatio::Ratio(x) => put_kind(out, at, 4, x),
-        TimeOrRatio::WholeBars(x) => put_kind(out, at, 5, x),
+    match of {
+        TimeOrRatio::Time(time) => put_time(out, time),
+        TimeOrRatio::Ratio(x) => put_kind(out, 4, x),
+        TimeOrRatio::WholeBars(x) => put_kind(out, 5, x),
     }
 }
 
-fn put_kind(out: &mut [u8; 65536], at: usize, kind: u64, x: f32) -> usize
-    requires { at + 11 ≤ 65536 }
-    ensures { result ≡ at + 11 }
+fn put_kind(out: &mut Text, kind: u64, x: f32)
+    ensures { length out.new ≡ min (length out.old + 11) 65536 }
 {
-    let first = begin(out, at, 1, kind);
-    put_f32(out, first, x)
+    out.begin::<1>(kind);
+    out.put_f32(x)
 }
 
-fn params(fields: &[u8], out: &mut [u8; 65536], at: usize) -> usize
-    requires in_bounds { 64 ≤ length fields.now }
-    requires at_bound { at + 20 ≤ 65536 }
-    ensures { result ≡ at + 20 }
+fn put_params(fields: &Record, out: &mut Text)
+    ensures { length out.new ≡ min (length out.old + 20) 65536 }
 {
     let p = params_of(fields);
-    let first = put_f32(out, at, p.speed());
-    let second = put_f32(out, first, p.loop_length(u64_at(fields, 8) as usize));
-    put_bool(out, second, p.beyond_limits())
+    out.put_f32(p.speed());
+    out.put_f32(p.loop_length(usize_at(fields, 8)));
+    out.put_bool(p.beyond_limits())
 }
 
+// By number, as the Rust's side writes it into a record.
 fn unit(index: u8) -> TimeUnit {
     match index {
         0 => TimeUnit::SixteenthNotes,

@@ -1,116 +1,94 @@
 // The text of a sampler's record, for programs that print it: a line for each channel, and after it one for each phrase
-// with samples that isn't chosen and one for each of its voices. Numbers are in hexadecimal, floats by their bits, and a NaN is 7FC00000. Of a clip's shift a zero of either
-// sign is written alike. Each function puts its text at a place of `out`, and answers the place after it.
-ghost use Rattle.std.specs.Prelude.{◌≡◌, ◌+◌, ◌*◌, ◌≤◌, ◌<◌};
+// with samples that isn't chosen and one for each of its voices. Numbers are in hexadecimal, floats by their bits, and a
+// NaN is 7FC00000. Of a clip's shift a zero of either sign is written alike.
+ghost use Rattle.std.specs.Prelude.{◌≡◌, ◌+◌, ◌≤◌, length, min};
 
 use channel::{Channel, Head, places};
 use clip::{Clip, Mode};
-use oracle_lines::level::put_volume;
-use oracle_lines::line::{end, put, put_bool, put_f32, put_u32, put_u64, tag};
+use oracle_lines::line::Text;
 use phrases::Phrase;
 use recorder::{Recorder, State};
 use sampler::Sampler;
 use voice::Voice;
 
-fn put_mode(out: &mut [u8; 65536], at: usize, mode: Mode) -> usize
-    requires { at + 2 ≤ 65536 }
-    ensures { result ≡ at + 2 }
+fn put_mode(out: &mut Text, mode: Mode)
+    ensures { length out.new ≡ min (length out.old + 2) 65536 }
 {
     match mode {
-        Mode::Loop => put(out, at, 1, 0),
-        Mode::PingPong => put(out, at, 1, 1),
+        Mode::Loop => out.put::<1>(0),
+        Mode::PingPong => out.put::<1>(1),
     }
 }
 
 // A float that compares by value.
-fn put_place(out: &mut [u8; 65536], at: usize, x: f32) -> usize
-    requires { at + 9 ≤ 65536 }
-    ensures { result ≡ at + 9 }
+fn put_place(out: &mut Text, x: f32)
+    ensures { length out.new ≡ min (length out.old + 9) 65536 }
 {
-    if x == 0.0 {
-        put_u32(out, at, 0)
-    } else {
-        put_f32(out, at, x)
-    }
+    out.put_f32(if x == 0.0 { 0.0 } else { x })
 }
 
-fn put_clip(out: &mut [u8; 65536], at: usize, c: Clip) -> usize
-    requires { at + 64 ≤ 65536 }
-    ensures { result ≡ at + 64 }
+fn put_clip(out: &mut Text, c: Clip)
+    ensures { length out.new ≡ min (length out.old + 64) 65536 }
 {
-    let mode = c.mode;
-    let first = put_u64(out, at, c.since as u64);
-    let second = put_f32(out, first, c.start);
-    let third = put_f32(out, second, c.speed);
-    let fourth = put_f32(out, third, c.length);
-    let fifth = put_f32(out, fourth, c.data_length);
-    let sixth = put_place(out, fifth, c.shift);
-    put_mode(out, sixth, mode)
+    out.put_usize(c.since);
+    out.put_f32(c.start);
+    out.put_f32(c.speed);
+    out.put_f32(c.length);
+    out.put_f32(c.data_length);
+    put_place(out, c.shift);
+    put_mode(out, c.mode)
 }
 
-fn put_levels(out: &mut [u8; 65536], at: usize, v: Voice) -> usize
-    requires { at + 36 ≤ 65536 }
-    ensures { result ≡ at + 36 }
+fn put_levels(out: &mut Text, v: Voice)
+    ensures { length out.new ≡ min (length out.old + 36) 65536 }
 {
-    let first = put_f32(out, at, v.loop_start_percent);
-    let second = put_f32(out, first, v.played);
-    let third = put_f32(out, second, v.last_sample_value);
-    put_f32(out, third, v.speed)
+    out.put_f32(v.loop_start_percent);
+    out.put_f32(v.played);
+    out.put_f32(v.last_sample_value);
+    out.put_f32(v.speed)
 }
 
-fn put_note(out: &mut [u8; 65536], at: usize, v: Voice) -> usize
-    requires { at + 13 ≤ 65536 }
-    ensures { result ≡ at + 13 }
+fn put_note(out: &mut Text, v: Voice)
+    ensures { length out.new ≡ min (length out.old + 13) 65536 }
 {
-    let note = v.note;
-    let first = put(out, at, 2, note.note as u64);
-    let second = put(out, first, 2, note.channel as u64);
-    let third = put_bool(out, second, v.finished);
-    let fourth = put_bool(out, third, v.is_at_zero_crossing);
-    put(out, fourth, 2, v.phrase as u64)
+    out.put_u8(v.note.note);
+    out.put_u8(v.note.channel);
+    out.put_bool(v.finished);
+    out.put_bool(v.is_at_zero_crossing);
+    out.put_u8(v.phrase)
 }
 
-fn put_voice(out: &mut [u8; 65536], at: usize, v: Voice) -> usize
-    requires { at + 203 ≤ 65536 }
-    ensures { result ≡ at + 203 }
+fn put_voice(out: &mut Text, v: Voice)
+    ensures { length out.new ≡ min (length out.old + 203) 65536 }
 {
-    let clip2 = v.clip2;
-    let volume = v.volume;
-    let first = tag(out, at, b'V');
-    let second = put_u64(out, first, v.finished_at as u64);
-    let third = put_u64(out, second, v.last_sample_index as u64);
-    let fourth = put_clip(out, third, clip2);
-    let fifth = put_volume(out, fourth, volume);
-    let sixth = put_levels(out, fifth, v);
-    let seventh = put_note(out, sixth, v);
-    end(out, seventh)
+    out.tag(b'V');
+    out.put_usize(v.finished_at);
+    out.put_usize(v.last_sample_index);
+    put_clip(out, v.clip2);
+    out.put_volume(v.volume);
+    put_levels(out, v);
+    put_note(out, v);
+    out.end()
 }
 
 // Whether it records, and its write place (0 while idle).
-fn put_state(out: &mut [u8; 65536], at: usize, state: State) -> usize
-    requires { at + 19 ≤ 65536 }
-    ensures { result ≡ at + 19 }
+fn put_state(out: &mut Text, state: State)
+    ensures { length out.new ≡ min (length out.old + 19) 65536 }
 {
-    match state {
-        State::Triggered { write } => {
-            let first = put(out, at, 1, 1);
-            put_u64(out, first, write as u64)
-        }
-        State::Idle => {
-            let first = put(out, at, 1, 0);
-            put_u64(out, first, 0)
-        }
-    }
+    let (records, write) = match state {
+        State::Triggered { write } => (true, write),
+        State::Idle => (false, 0),
+    };
+    out.put_bool(records);
+    out.put_usize(write)
 }
 
-fn put_recorder(out: &mut [u8; 65536], at: usize, r: Recorder) -> usize
-    requires { at + 37 ≤ 65536 }
-    ensures { result ≡ at + 37 }
+fn put_recorder(out: &mut Text, r: Recorder)
+    ensures { length out.new ≡ min (length out.old + 37) 65536 }
 {
-    let state = r.state;
-    let first = put_state(out, at, state);
-    let second = put_u32(out, first, r.skipped_samples);
-    put_u32(out, second, r.incorrect_state)
+    put_state(out, r.state);
+    out.put_u32(r.skipped_samples);
+    out.put_u32(r.incorrect_state)
 }
 
 // Where the recording begins. Of an empty one that is said only while it is recorded: before, nothing begins there.
@@ -123,101 +101,53 @@ fn begins(h: Head) -> usize {
 }
 
 // A channel without its voices but for their count.
-fn put_head(out: &mut [u8; 65536], at: usize, h: Head, count: usize) -> usize
-    requires { at + 168 ≤ 65536 }
-    ensures { result ≡ at + 168 }
+fn put_head(out: &mut Text, h: Head, count: usize)
+    ensures { length out.new ≡ min (length out.old + 168) 65536 }
 {
-    let recorder = h.recorder;
-    let volume = h.passthru_volume;
-    let first = tag(out, at, b'C');
-    let second = put_u64(out, first, h.now as u64);
-    let third = put(out, second, 2, h.chosen as u64);
-    let fourth = put_u64(out, third, begins(h) as u64);
-    let fifth = put_u64(out, fourth, h.data_len as u64);
-    let sixth = put_recorder(out, fifth, recorder);
-    let seventh = put_bool(out, sixth, h.passthru_on);
-    let eighth = put_volume(out, seventh, volume);
-    let ninth = put_bool(out, eighth, h.interpolates);
-    let tenth = put_u64(out, ninth, count as u64);
-    end(out, tenth)
+    out.tag(b'C');
+    out.put_usize(h.now);
+    out.put_u8(h.chosen);
+    out.put_usize(begins(h));
+    out.put_usize(h.data_len);
+    put_recorder(out, h.recorder);
+    out.put_bool(h.passthru_on);
+    out.put_volume(h.passthru_volume);
+    out.put_bool(h.interpolates);
+    out.put_usize(count);
+    out.end()
 }
 
 // A line for the phrase of that number, where it has samples and isn't chosen: its number, where it begins, its length.
-fn put_phrase(out: &mut [u8; 65536], at: usize, k: u8, chosen: u8, p: Phrase) -> usize
-    requires { at + 38 ≤ 65536 }
-    ensures { result ≤ at + 38 }
+fn put_phrase(out: &mut Text, k: u8, chosen: u8, p: Phrase)
+    ensures { length out.new ≤ length out.old + 38 }
 {
     if (k == chosen) | p.is_empty() {
-        return at;
+        return;
     }
-    let first = tag(out, at, b'P');
-    let second = put(out, first, 1, k as u64);
-    let third = put_u64(out, second, p.start as u64);
-    let fourth = put_u64(out, third, p.length as u64);
-    end(out, fourth)
+    out.tag(b'P');
+    out.put::<1>(k as u64);
+    out.put_usize(p.start);
+    out.put_usize(p.length);
+    out.end()
 }
 
-fn put_phrases(out: &mut [u8; 65536], at: usize, c: Channel) -> usize
-    requires { at + 304 ≤ 65536 }
-    ensures { result ≤ at + 304 }
+fn put_channel(out: &mut Text, c: &Channel)
+    ensures { length out.new ≤ length out.old + 6968 }
 {
-    let head = c.head;
-    let mut place = at;
-    let mut k = 0u8;
-    while k < 8 {
-        place = put_phrase(out, place, k, head.chosen, c.phrase_at(k));
-        k += 1;
+    put_head(out, c.head, c.count);
+    for k in 0..8 {
+        put_phrase(out, k, c.head.chosen, c.phrase_at(k));
     }
-    place
-}
-
-// The first n voices.
-fn put_voices(out: &mut [u8; 65536], at: usize, c: Channel, n: usize) -> usize
-    requires n_bound { n ≤ 32 }
-    requires at_bound { at + 6496 ≤ 65536 }
-    ensures { result ≡ at + 203 * n }
-{
-    let mut place = at;
-    let mut i = 0;
-    while i < n {
-        let v = c.voices[i];
-        place = put_voice(out, place, v);
-        i += 1;
+    for voice in &c.voices[..places(c.count)] {
+        put_voice(out, *voice);
     }
-    place
-}
-
-fn put_channel(out: &mut [u8; 65536], at: usize, c: Channel, n: usize) -> usize
-    requires n_bound { n ≤ 32 }
-    requires at_bound { at + 6968 ≤ 65536 }
-    ensures { result ≤ at + 6968 }
-{
-    let head = c.head;
-    let first = put_head(out, at, head, c.count);
-    let second = put_phrases(out, first, c);
-    put_voices(out, second, c, n)
-}
-
-fn put_used(out: &mut [u8; 65536], at: usize, c: Channel) -> usize
-    requires { at + 6968 ≤ 65536 }
-    ensures { result ≤ at + 6968 }
-{
-    put_channel(out, at, c, places(c.count))
 }
 
 // What is in use of the record: the channels below the count, each with the voices below its count.
-pub fn put_sampler(out: &mut [u8; 65536], at: usize, s: Sampler) -> usize
-    requires { at + 13936 ≤ 65536 }
-    ensures { result ≤ at + 13936 }
+pub fn put_sampler(out: &mut Text, s: &Sampler)
+    ensures { length out.new ≤ length out.old + 13936 }
 {
-    if s.count == 0 {
-        return at;
+    for c in &s.channels[..s.count.min(2)] {
+        put_channel(out, c);
     }
-    let left = s.channels[0];
-    let first = put_used(out, at, left);
-    if s.count == 1 {
-        return first;
-    }
-    let right = s.channels[1];
-    put_used(out, first, right)
 }

@@ -7,226 +7,133 @@
 // of one channel; 9 frame; 10 clocks put on, or a field put; 11 the recordings; 12 frames processed, 13 data length, 14
 // is recording, 15 last recorded offset, 16 error text, 17 active notes, 18 voice info; 19 many frames; 20 waveform
 // summary; 21 a run of frames; 22 request 7/12's setting; 23 a piece of a WAVE file, 24 the recordings written as a file,
-// 25 a file read; 26 a phrase chosen, 27 one deleted, 28 all gathered. A set-up takes back the parameters to the defaults, and empties the file.
+// 25 a file read; 26 a phrase chosen, 27 one deleted, 28 all gathered. A set-up takes back the parameters to the
+// defaults, and empties memory and file.
 #![tactic(auto)]
 
-ghost use Rattle.std.specs.Prelude.{◌≡◌, ◌+◌, ◌*◌, ◌≤◌, ◌<◌, length};
+ghost use Rattle.std.specs.Prelude.{◌≤◌, length, max};
 
-use oracle_acts::recording::recordings;
-use oracle_acts::run::{Run, begun, room};
-use oracle_acts::{calls, puts, waves};
+use oracle_acts::calls::{entries_of, run_asked};
+use oracle_acts::puts::put;
+use oracle_acts::run::Run;
 use oracle_lines::chunk::read_full;
-use oracle_lines::field::u32_at;
-use oracle_lines::line::{end, tag, write};
+use oracle_lines::field::Record;
 use oracle_lines::settings::params_of;
-use oracle_show::replies::{lent, query, waveform};
+use oracle_show::replies::{query, waveform};
 use std::io::Read;
 
 fn main(rt: HostRuntime) {
-    let mut memory = [0u32; 65536];
-    let mut file = [0u8; 1024];
     let mut from = rt.stdin();
-    play(&rt, &mut from, &mut memory, &mut file);
-}
-
-fn play(rt: &impl Print, from: &mut impl Read, memory: &mut [u32], file: &mut [u8]) {
-    let mut out = [0u8; 65536];
-    let mut run = begun(memory);
-    // What a proved loop ends by: no run uses them up.
-    let mut turns = u64::MAX;
-    while turns > 0 && run.go {
-        run = turn(rt, from, run, memory, file, &mut out);
-        turns -= 1;
+    let mut run = Run::new();
+    for _ in 0..u64::MAX {
+        if !turn(&rt, &mut from, &mut run) {
+            break;
+        }
     }
-    write(rt, &out, run.at);
+    run.out.write(&rt);
 }
 
-// Reads and plays 128 records, or as many as are left.
-fn turn(
-    rt: &impl Print,
-    from: &mut impl Read,
-    run: Run,
-    memory: &mut [u32],
-    file: &mut [u8],
-    out: &mut [u8; 65536],
-) -> Run
-    requires { run.at ≤ 65536 }
-    ensures { result.at ≤ 65536 }
+// Reads and plays 128 records, or as many as are left. Whether more may follow.
+fn turn(rt: &impl Print, from: &mut impl Read, run: &mut Run) -> bool
+    ensures { length run.new.out ≤ max (length run.old.out) 65536 }
 {
     let mut chunk = [0u8; 8192];
     let got = read_full(from, &mut chunk);
-    let mut r = records(rt, run, &chunk[..got], memory, file, out);
-    r.go = r.go & (got == 8192);
-    r
+    play(rt, &chunk[..got], run) & (got == 8192)
 }
 
-fn records(
-    rt: &impl Print,
-    run: Run,
-    chunk: &[u8],
-    memory: &mut [u32],
-    file: &mut [u8],
-    out: &mut [u8; 65536],
-) -> Run
-    requires at_bound { run.at ≤ 65536 }
-    requires chunk_len_bound { length chunk.now ≤ 8192 }
-    ensures { result.at ≤ 65536 }
+// Whether the listing goes on: a bad record ends it.
+fn play(rt: &impl Print, chunk: &[u8], run: &mut Run) -> bool
+    ensures { length run.new.out ≤ max (length run.old.out) 65536 }
 {
-    let mut r = run;
-    let mut from = 0;
-    while from + 64 <= chunk.len() && r.go {
-        r = record(rt, r, &chunk[from..from + 64], memory, file, out);
-        from += 64;
-    }
-    if (from == chunk.len()) | !r.go {
-        return r;
-    }
-    let at = room(rt, out, r.at);
-    bad(r, out, at)
-}
-
-// A bad record ends the listing.
-fn bad(run: Run, out: &mut [u8; 65536], at: usize) -> Run
-    requires { at ≤ 32768 }
-    ensures { result.at ≤ 65536 }
-{
-    let mut r = run;
-    let first = tag(out, at, b'X');
-    r.at = end(out, first);
-    r.go = false;
-    r
-}
-
-fn record(
-    rt: &impl Print,
-    run: Run,
-    fields: &[u8],
-    memory: &mut [u32],
-    file: &mut [u8],
-    out: &mut [u8; 65536],
-) -> Run
-    requires at_bound { run.at ≤ 65536 }
-    requires in_bounds { 64 ≤ length fields.now }
-    ensures { result.at ≤ 65536 }
-{
-    let at = room(rt, out, run.at);
-    let kind = fields[0];
-    match kind {
-        0 => set_up(fields, memory, file, out, at),
-        8 => run.heard(kind, calls::sample(run, fields, memory), out, at),
-        9 => run.heard(kind, calls::frame(run, fields, memory), out, at),
-        11 => recordings(rt, run.told(kind, out, at), memory, out),
-        19 => run.heard(kind, calls::frames(run, fields, memory), out, at),
-        20 => run.on(run.sampler, waveform(run.sampler, fields, memory, out, at)),
-        21 => ran(run, fields, memory, out, at),
-        23..=25 => waved(run, fields, memory, file, out, at),
-        28 => {
-            let a = calls::gather(run.sampler, fields, memory);
-            run.gathered(kind, a, waves::mixed(memory), out, at)
+    let (records, rest) = chunk.as_chunks::<64>();
+    for record in records {
+        run.out.spill(rt);
+        if !answer(rt, record, run) {
+            run.bad();
+            return false;
         }
-        _ => plain(run, fields, out, at),
     }
+    if !rest.is_empty() {
+        run.out.spill(rt);
+        run.bad();
+        return false;
+    }
+    true
 }
 
-fn set_up(
-    fields: &[u8],
-    memory: &mut [u32],
-    file: &mut [u8],
-    out: &mut [u8; 65536],
-    at: usize,
-) -> Run
-    requires at_bound { at ≤ 32768 }
-    requires in_bounds { 64 ≤ length fields.now }
-    ensures { result.at ≤ 65536 }
-{
-    waves::empty(file);
-    begun(memory).answered(fields[0], calls::set_up(fields, memory), out, at)
-}
-
-// Records 23 to 25, of a file.
-fn waved(
-    run: Run,
-    fields: &[u8],
-    memory: &mut [u32],
-    file: &mut [u8],
-    out: &mut [u8; 65536],
-    at: usize,
-) -> Run
-    requires at_bound { at ≤ 32768 }
-    requires in_bounds { 64 ≤ length fields.now }
-    ensures { result.at ≤ 65536 }
+// Whether the record's kind is known.
+fn answer(rt: &impl Print, fields: &Record, run: &mut Run) -> bool
+    ensures { length run.old.out ≤ 32768 → length run.new.out ≤ 65534 }
 {
     let kind = fields[0];
-    let s = run.sampler;
     match kind {
+        0 => {
+            let number = run.set_up(fields);
+            run.answered(kind, number);
+        }
+        1 => {
+            run.params = params_of(fields);
+            run.told(kind);
+        }
+        2..=7 | 26 | 27 => {
+            let number = run.call(fields);
+            run.answered(kind, number);
+        }
+        8 => {
+            let h = run.sample(fields);
+            run.heard(kind, h);
+        }
+        9 => {
+            let h = run.frame(entries_of(fields), fields);
+            run.heard(kind, h);
+        }
+        10 => {
+            put(&mut run.sampler, fields);
+            run.answered(kind, 0);
+        }
+        11 => {
+            run.told(kind);
+            run.put_recordings(rt);
+        }
+        12..=18 => query(run.sampler, run.params, fields, &mut run.out),
+        19 => {
+            let h = run.frames(fields);
+            run.heard(kind, h);
+        }
+        20 => waveform(run.sampler, fields, &run.memory, &mut run.out),
+        21 => ran(kind, fields, run),
+        22 => {
+            let number = run.on(run.sampler.set_interpolation(fields[1] != 0));
+            run.answered(kind, number);
+        }
         23 => {
-            waves::piece(file, fields);
-            run.told(kind, out, at)
+            run.piece(fields);
+            run.told(kind);
         }
         24 => {
-            let a = waves::write(s, fields, memory, file);
-            run.wrote(kind, a, file, out, at)
+            let a = run.write(fields);
+            run.wrote(kind, a);
         }
-        _ => {
-            let a = waves::read(s, fields, file, memory);
-            run.took(kind, a, waves::mixed(memory), out, at)
+        25 => {
+            let read = run.read(fields);
+            run.took(kind, read);
         }
+        28 => {
+            let number = run.gather(fields);
+            run.gathered(kind, number);
+        }
+        _ => return false,
     }
+    true
 }
 
 // A run of as many entries as the number at 12 says, and of 2,048 at most.
-fn ran(run: Run, fields: &[u8], memory: &mut [u32], out: &mut [u8; 65536], at: usize) -> Run
-    requires at_bound { at ≤ 32768 }
-    requires in_bounds { 64 ≤ length fields.now }
-    ensures { result.at ≤ 65536 }
+fn ran(kind: u8, fields: &Record, run: &mut Run)
+    ensures { length run.old.out ≤ 32768 → length run.new.out ≤ 65534 }
 {
     let mut entries = [0.0f32; 2048];
-    let n = lent(u32_at(fields, 12) as usize, 2048);
-    ran_on(run, fields, &mut entries[..n], memory, out, at)
-}
-
-fn ran_on(
-    run: Run,
-    fields: &[u8],
-    entries: &mut [f32],
-    memory: &mut [u32],
-    out: &mut [u8; 65536],
-    at: usize,
-) -> Run
-    requires at_bound { at ≤ 32768 }
-    requires in_bounds { 64 ≤ length fields.now }
-    requires entries_len_bound { length entries.old ≤ 2048 }
-    ensures { result.at ≤ 65536 }
-{
-    let a = calls::run_of(run, fields, entries, memory);
-    run.ran(fields[0], a, entries, out, at)
-}
-
-// The records that need no memory.
-fn plain(run: Run, fields: &[u8], out: &mut [u8; 65536], at: usize) -> Run
-    requires at_bound { at ≤ 32768 }
-    requires in_bounds { 64 ≤ length fields.now }
-    ensures { result.at ≤ 65536 }
-{
-    let kind = fields[0];
-    let s = run.sampler;
-    let p = run.params;
-    match kind {
-        1 => parameters(run, fields).told(kind, out, at),
-        2..=7 => run.answered(kind, calls::call(s, p, fields), out, at),
-        10 => run.answered(kind, puts::put(s, fields), out, at),
-        12..=18 => run.on(s, query(s, p, fields, out, at)),
-        22 => run.answered(kind, s.set_interpolation(fields[1] != 0), out, at),
-        26..=27 => run.answered(kind, calls::call(s, p, fields), out, at),
-        _ => bad(run, out, at),
-    }
-}
-
-// The parameters of the calls that follow.
-fn parameters(run: Run, fields: &[u8]) -> Run
-    requires { 64 ≤ length fields.now }
-{
-    let mut r = run;
-    r.params = params_of(fields);
-    r
+    let n = run_asked(fields);
+    let ran = run.frames_of(fields, &mut entries[..n]);
+    run.ran(kind, ran, &entries[..n])
 }

@@ -3,18 +3,19 @@
 #![tactic(auto)]
 
 ghost use Rattle.std.specs.Prelude.{◌≡◌, length};
-ghost use Rattle.sampler.specs.Refusals.{frame_number};
+ghost use Rattle.sampler.specs.Refusals.{frame_judged};
 ghost use Rattle.sampler.specs.Samplers.{Frames, framed_of, frame_moved, ran_of, run_answer};
+ghost use Rattle.lent_sampler.specs.Hearing.{done_in, moved_in};
 
 use common_types::Params;
-use lent_sampler::FrameDone;
+use refusals::Refusal;
 use sampler::{RunAnswer, Sampler};
 
-// What a frame leaves, and what it answers.
+// What a frame leaves, and what it answers: how many voices of its channels moved up, or why it is refused.
 #[derive(Clone, Copy)]
 pub struct FramePlayed {
     pub sampler: Sampler,
-    pub done: FrameDone,
+    pub done: Result<u8, Refusal>,
 }
 
 pub fn process_frame(
@@ -23,10 +24,10 @@ pub fn process_frame(
     params: Params,
     memory: &mut [u32],
 ) -> FramePlayed
-    ensures { (result.done.number
-        ≡ frame_number s (length frame.old) params (length memory.old))
+    ensures { (done_in result.done
+        ≡ frame_judged s (length frame.old) params (length memory.old))
         × Frames (framed_of s frame.old params memory.old) result.sampler frame.new
-        memory.new × (result.done.moved ≡ frame_moved s frame.old params memory.old) }
+        memory.new × (moved_in result.done ≡ frame_moved s frame.old params memory.old) }
 {
     let done = lent_sampler::process_frame(&mut s, frame, params, memory);
     FramePlayed { sampler: s, done }

@@ -1,5 +1,7 @@
 -- What holds of every number below one; a number is another or not, and lies before another or not. Assumes nothing.
-use Rattle.std.proofs.Common.{◌≡◌, ℕ, zero, suc, ◌+◌, ◌<◌, ◌≤◌, Bool, true, false, ◌&&◌, eqb, ltb, ◌≢◌, ◌⊎◌, sym, refl, ◌∙◌, subst, inl, inr, ⊎_elim, true≢false, le_of_suc-le-suc, eq-or-lt_of_le, add-one, arith, ltb-false, ltb-true, eqb-true}
+use Rattle.std.proofs.Common.{◌≡◌, ℕ, zero, suc, ◌+◌, ◌<◌, ◌≤◌, Bool, true, false, ◌&&◌, eqb, ltb, List, length, take, get_or, ap, ◌≢◌, ◌⊎◌, sym, refl, ◌∙◌, subst, inl, inr, ⊎_elim, true≢false, le_of_suc-le-suc, eq-or-lt_of_le, add-one, arith, ltb-false, ltb-true, eqb-true}
+use Rattle.std.proofs.lemmas.List.Folds.{list_all_more}
+use Rattle.std.specs.List.{list_all}
 use borrow.Author.Tests.{eqb-false}
 use Rattle.walks.proofs.Lists.Every.{both}
 use Rattle.walks.proofs.Tests.{joined}
@@ -48,3 +50,13 @@ module _ (f : ℕ → Bool) where
       go : (b : Bool) → every_below n f ≡ b → b ≡ false
       go true e = absurd (true≢false (sym (below_at n k e l) ∙ h))
       go false e = refl
+
+-- the first n of a list, by their places
+pub front_all : {X : Type 0} (p : X → Bool) (xs : List X) (d : X) (n : ℕ) → n ≤ length xs
+    → list_all p (take n xs) ≡ every_below n (λ (k : ℕ). p (get_or xs k d))
+unfolding every_below
+front_all p xs d zero h = refl
+front_all p xs d (suc n) h =
+    ap (λ (k : ℕ). list_all p (take k xs)) (sym (add-one n))
+    ∙ list_all_more p xs n d (omega arith)
+    ∙ ap (λ (b : Bool). b && p (get_or xs n d)) (front_all p xs d n (omega arith))

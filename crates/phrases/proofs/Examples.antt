@@ -1,6 +1,5 @@
 -- Phrases at their edges, each told from its nearest wrong neighbour, and gatherings word by word. Each holds by computation. Assumes nothing.
-use Rattle.std.proofs.Common.{◌≡◌, ℕ, ◌-◌, ◌^◌, true, false, List, [], ◌∷◌, set, refl}
-use Rattle.walks.specs.Walks.{fold}
+use Rattle.std.proofs.Common.{◌≡◌, ℕ, ◌-◌, ◌^◌, true, false, Some, None, List, [], ◌∷◌, set, refl}
 use Rattle.phrases.specs.declared.Phrase.{Phrase}
 use Rattle.phrases.specs.Phrases.{no_phrase, no_phrases, empty_from, no_samples, is_over_by, reach_of, apart_of, room_of, others_of, every_below, good_at, good_phrases, beside_with, beside_of}
 use Rattle.phrases.specs.Gathering.{first_below, first_from, moved_down, gather_phrase, gather_next, gather_turns, gathering_of, sum_below, samples_of_all, samples_if, samples_before}
@@ -79,7 +78,7 @@ others = (refl, refl, refl)
 
 -- ---- what others say to one that begins at a place
 asking : Unit {0}
-unfolding beside_of beside_with fold reach_of no_samples
+unfolding beside_of beside_with reach_of no_samples
 asking = tt
 
 -- one that begins at the place is the next, one that begins before it isn't; where none begins there is the capacity. How far they reach is the same everywhere
@@ -102,8 +101,8 @@ gathering = tt
 abbrev words : List ℕ
 words = 10 ∷ 11 ∷ 12 ∷ 13 ∷ 14 ∷ 15 ∷ 16 ∷ 17 ∷ []
 
--- the first by place, and not by number; at the place counts; where none begins, 8
-pub firsts : (first_from 0 three ≡ 2) × (first_from 1 three ≡ 5) × (first_from 3 three ≡ 5) × (first_from 4 three ≡ 0) × (first_from 5 three ≡ 8)
+-- the first by place, and not by number; at the place counts; where none begins, none
+pub firsts : (first_from 0 three ≡ Some 2) × (first_from 1 three ≡ Some 5) × (first_from 3 three ≡ Some 5) × (first_from 4 three ≡ Some 0) × (first_from 5 three ≡ None)
 unfolding gathering
 firsts = (refl, refl, refl, refl, refl)
 

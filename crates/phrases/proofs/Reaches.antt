@@ -2,7 +2,7 @@
 use Rattle.std.proofs.Common.{◌≡◌, ℕ, zero, suc, ◌+◌, ◌%◌, ◌^◌, ◌<◌, ◌≤◌, min, max, Bool, true, false, cond, not, ◌&&◌, eqb, leb, ◌⊎◌, List, [], ◌∷◌, length, get_or, refl, inl, inr, le_trans, le_refl, mod-eq_of_lt, le_antisymm, arith, eq-eqb, ne_eqb, eqb-true, le-leb, leb-false, leb-true}
 use native.Mathlib.Nat.{mod-le}
 use borrow.Author.Tests.{eqb-false, not-true}
-use Rattle.walks.specs.Walks.{fold}
+use Rattle.std.specs.List.{fold}
 use Rattle.walks.proofs.Lists.Every.{both}
 use Rattle.phrases.specs.Phrases.{no_phrase, no_phrases, no_samples, is_over_by, reach_of, apart_of, others_of, beside_of_nothing, beside_with, beside_of}
 use Rattle.phrases.specs.declared.Phrase.{Phrase}
@@ -34,19 +34,19 @@ module _ (p : Phrase) where
 -- ---- the steps of the walk
 module _ (place : ℕ) where
   behind_grows : (b : Beside) (ps : List Phrase) → b.behind ≤ (fold (beside_with place) b ps).behind
-  unfolding fold beside_with
+  unfolding beside_with
   behind_grows b [] = omega arith
   behind_grows b (p ∷ ps) = omega (arith, behind_grows (beside_with place b p) ps)
 
   behind_over : (b : Beside) (ps : List Phrase) (k : ℕ) → reach_of (get_or ps k no_phrase) ≤ (fold (beside_with place) b ps).behind
-  unfolding fold beside_with
+  unfolding beside_with
   behind_over b [] k = rw (reach_empty no_phrase refl) (omega arith)
   behind_over b (p ∷ ps) zero = omega (arith, behind_grows (beside_with place b p) ps)
   behind_over b (p ∷ ps) (suc k) = behind_over (beside_with place b p) ps k
 
   behind_under : (b : Beside) (ps : List Phrase) (n : ℕ) → b.behind ≤ n → ((k : ℕ) → k < length ps → reach_of (get_or ps k no_phrase) ≤ n)
       → (fold (beside_with place) b ps).behind ≤ n
-  unfolding fold beside_with
+  unfolding beside_with
   behind_under b [] n h f = h
   behind_under b (p ∷ ps) n h f = behind_under (beside_with place b p) ps n (omega (arith, f 0 (omega arith))) (λ k l. f (suc k) (omega arith))
 
@@ -55,7 +55,7 @@ module _ (place : ℕ) where
   Reached b ps n = (n ≡ b.behind) ⊎ ((k : ℕ) × (k < length ps) × (n ≡ reach_of (get_or ps k no_phrase)))
 
   behind_from : (b : Beside) (ps : List Phrase) → Reached b ps (fold (beside_with place) b ps).behind
-  unfolding fold beside_with
+  unfolding beside_with
   behind_from b [] = inl refl
   behind_from b (p ∷ ps) = go (behind_from (beside_with place b p) ps)
     where
@@ -91,13 +91,11 @@ module _ (place : ℕ) where
       go false e = h
 
   next_falls : (b : Beside) (ps : List Phrase) → (fold (beside_with place) b ps).next ≤ b.next
-  unfolding fold
   next_falls b [] = omega arith
   next_falls b (p ∷ ps) = omega (arith, next_falls (beside_with place b p) ps, step_low b p)
 
   next_at : (b : Beside) (ps : List Phrase) (k : ℕ) → ((get_or ps k no_phrase).length ≡ 0 → ⊥) → place ≤ (get_or ps k no_phrase).start
       → (fold (beside_with place) b ps).next ≤ (get_or ps k no_phrase).start
-  unfolding fold
   next_at b [] k some h = absurd (some refl)
   next_at b (p ∷ ps) zero some h = omega (arith, next_falls (beside_with place b p) ps, step-at b p some h)
   next_at b (p ∷ ps) (suc k) some h = next_at (beside_with place b p) ps k some h
@@ -105,13 +103,12 @@ module _ (place : ℕ) where
   next_over : (b : Beside) (ps : List Phrase) (n : ℕ) → n ≤ b.next
       → ((k : ℕ) → k < length ps → ((get_or ps k no_phrase).length ≡ 0 → ⊥) → place ≤ (get_or ps k no_phrase).start → n ≤ (get_or ps k no_phrase).start)
       → n ≤ (fold (beside_with place) b ps).next
-  unfolding fold
   next_over b [] n h f = h
   next_over b (p ∷ ps) n h f = next_over (beside_with place b p) ps n (step_over b p n h (f 0 (omega arith))) (λ k l. f (suc k) (omega arith))
 
 behind_alike : (place place' : ℕ) (b b' : Beside) (ps : List Phrase) → b.behind ≡ b'.behind
     → (fold (beside_with place) b ps).behind ≡ (fold (beside_with place') b' ps).behind
-unfolding fold beside_with
+unfolding beside_with
 behind_alike place place' b b' [] h = h
 behind_alike place place' b b' (p ∷ ps) h = behind_alike place place' (beside_with place b p) (beside_with place' b' p) ps (rw h)
 
@@ -122,7 +119,7 @@ behind_same place place' capacity capacity' ps = behind_alike place place' (besi
 
 -- where there are no others, there is room for all
 pub beside_none : (place capacity : ℕ) → beside_of place capacity no_phrases ≡ beside_of_nothing capacity
-unfolding beside_of beside_with reach_of no_samples fold
+unfolding beside_of beside_with reach_of no_samples
 beside_none place capacity = refl
 
 pub beside_alone : (place capacity chosen : ℕ) (table : List Phrase) → beside_of place capacity (others_of false chosen table) ≡ beside_of_nothing capacity

@@ -1,19 +1,21 @@
 -- Phrases moved down in a channel's part of the memory (request 11/12): "A gather call moves phrases down, in order, each
 -- sample keeping its bits, so that all free room is one stretch behind them". Definitions only. Assumes nothing.
-use Rattle.std.specs.Prelude.{ℕ, zero, suc, ◌+◌, ◌-◌, cond, not, ◌&&◌, ◌||◌, List, ◌++◌, length, get_or, take, drop, ◌==◌, nat_le, nat_lt, slice_index_or, slice_set}
+use Rattle.std.specs.Prelude.{ℕ, zero, suc, ◌+◌, ◌-◌, true, cond, not, ◌&&◌, Option, Some, None, List, ◌++◌, length, get_or, take, drop, nat_le, nat_lt, slice_index_or, slice_set}
+use Rattle.std.specs.Option.{option_map_or}
 use Rattle.phrases.specs.declared.Phrase.{Phrase}
 use Rattle.phrases.specs.Phrases.{no_phrase, no_samples, room_of}
 
--- of the first n, the number of the one that begins first of those that begin at a place or behind it; 8 where none does.
--- An empty one begins nowhere
-unfoldable pub first_below : ℕ → List Phrase → ℕ → ℕ
-first_below place ps zero = 8
+-- of the first n, the number of the one that begins first of those that begin at a place or behind it, if one does. An empty
+-- one begins nowhere
+unfoldable pub first_below : ℕ → List Phrase → ℕ → Option ℕ
+first_below place ps zero = None
 first_below place ps (suc n) =
-    let k = first_below place ps n in
+    let found = first_below place ps n in
     let p = get_or ps n no_phrase in
-    cond ((not (no_samples p) && nat_le place p.start) && (k == 8 || nat_lt p.start (get_or ps k no_phrase).start)) n k
+    let sooner = option_map_or (λ k. nat_lt p.start (get_or ps k no_phrase).start) found true in
+    cond ((not (no_samples p) && nat_le place p.start) && sooner) (Some n) found
 
-abbrev pub first_from : ℕ → List Phrase → ℕ
+abbrev pub first_from : ℕ → List Phrase → Option ℕ
 first_from place ps = first_below place ps 8
 
 -- n words moved down from one place to another
@@ -42,9 +44,7 @@ gather_phrase k g =
 
 -- the next goes down, if there is one
 unfoldable pub gather_next : Gathering → Gathering
-gather_next g =
-    let k = first_from g.from g.phrases in
-    cond (nat_lt k 8) (gather_phrase k g) g
+gather_next g = option_map_or (λ k. gather_phrase k g) (first_from g.from g.phrases) g
 
 unfoldable pub gather_turns : ℕ → Gathering → Gathering
 gather_turns zero g = g

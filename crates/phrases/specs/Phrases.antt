@@ -1,7 +1,7 @@
 -- A phrase, a stretch of a channel's part of the lent memory (request 11/12): the part is a list of samples, each its bit
 -- pattern. Definitions only. Assumes nothing.
 use Rattle.std.specs.Prelude.{ℕ, zero, suc, ◌+◌, ◌-◌, ◌%◌, ◌^◌, min, max, Bool, true, cond, not, ◌&&◌, ◌||◌, List, get_or, take, drop, replicate, ◌==◌, nat_le, slice_index_or, slice_set}
-use Rattle.walks.specs.Walks.{fold}
+use Rattle.std.specs.List.{fold}
 use Rattle.phrases.specs.declared.Phrase.{Phrase}
 use Rattle.phrases.specs.declared.Room.{Room}
 use Rattle.phrases.specs.declared.Beside.{Beside}

@@ -2,7 +2,8 @@
 // arguments, and equals a definition in specs/Phrases.antt.
 #![tactic(auto)]
 
-ghost use Rattle.std.specs.Prelude.{◌≡◌, ◌+◌, ◌≤◌, length, slice_index_or, slice_set};
+ghost use Rattle.std.specs.Prelude.{◌≡◌, ◌+◌, ◌≤◌, ◌<◌, IfSome, length, take, slice_set};
+ghost use Rattle.std.specs.List.{list_all};
 ghost use Rattle.phrases.specs.Phrases.{
   no_phrase,
   empty_from,
@@ -15,15 +16,12 @@ ghost use Rattle.phrases.specs.Phrases.{
   room_of,
   no_phrases,
   others_of,
-  every_below,
   good_phrases,
   beside_of_nothing,
   beside_with,
   beside_of,
 };
 ghost use Rattle.phrases.specs.Gathering.{first_from, moved_down, gathering_of};
-
-use walks::{larger, smaller};
 
 // Where it begins, and how many samples it has.
 #[derive(Clone, Copy)]
@@ -59,6 +57,7 @@ impl Phrase {
         Self { start, length: 0 }
     }
 
+    #[tactic(auto, unfolding(crate::specs::Phrases::no_samples))]
     pub fn is_empty(self) -> bool
         ensures { result ≡ no_samples self }
     {
@@ -66,6 +65,7 @@ impl Phrase {
     }
 
     // How far it reaches: an empty one nowhere. The sum of one that lies in a memory doesn't wrap.
+    #[tactic(auto, unfolding(crate::specs::Phrases::reach_of, crate::specs::Phrases::no_samples))]
     pub fn reach(self) -> usize
         ensures { result ≡ reach_of self }
     {
@@ -76,6 +76,7 @@ impl Phrase {
     }
 
     // Whether it lies within the capacity and, if it has samples, not before a place.
+    #[tactic(auto, unfolding(crate::specs::Phrases::clear_of))]
     pub fn clear(self, upto: usize, capacity: usize) -> bool
         ensures { result ≡ clear_of upto capacity self }
     {
@@ -86,6 +87,7 @@ impl Phrase {
     }
 
     // How far phrases reach, the last of which it is; they reached up to a place before it.
+    #[tactic(auto, unfolding(crate::specs::Phrases::reach_from))]
     pub fn reach_from(self, upto: usize) -> usize
         ensures { result ≡ reach_from upto self }
     {
@@ -125,10 +127,10 @@ impl Phrase {
         ensures value { result ≡ room_of self size }
         ensures from_le_to { (result.from ≤ result.to) × (result.to ≤ size) }
     {
-        let from = smaller(self.start, size);
+        let from = self.start.min(size);
         Room {
             from,
-            to: from + smaller(self.length, size - from),
+            to: from + self.length.min(size - from),
         }
     }
 }
@@ -153,22 +155,24 @@ impl Beside {
     }
 
     // With one more of them.
+    #[tactic(auto, unfolding(crate::specs::Phrases::beside_with))]
     pub fn with(self, place: usize, p: Phrase) -> Self
         ensures { result ≡ beside_with place self p }
     {
         let next = if !p.is_empty() & (place <= p.start) {
-            smaller(self.next, p.start)
+            self.next.min(p.start)
         } else {
             self.next
         };
         Self {
-            behind: larger(self.behind, p.reach()),
+            behind: self.behind.max(p.reach()),
             next,
         }
     }
 }
 
 // The table without the chosen phrase's entry, which isn't looked at; where it isn't in use, all are empty.
+#[tactic(auto, unfolding(crate::specs::Phrases::others_of))]
 pub fn others(table: [Phrase; 8], several: bool, chosen: u8) -> [Phrase; 8]
     ensures { result ≡ others_of several chosen table }
 {
@@ -181,8 +185,7 @@ pub fn others(table: [Phrase; 8], several: bool, chosen: u8) -> [Phrase; 8]
 pub fn none() -> [Phrase; 8]
     ensures { result ≡ no_phrases }
 {
-    let p = Phrase::none();
-    [p; 8]
+    [Phrase::none(); 8]
 }
 
 pub fn with(table: [Phrase; 8], k: u8, p: Phrase) -> [Phrase; 8]
@@ -196,32 +199,21 @@ pub fn with(table: [Phrase; 8], k: u8, p: Phrase) -> [Phrase; 8]
     all
 }
 
+#[tactic(auto, unfolding(crate::specs::Phrases::beside_of))]
 pub fn around(others: [Phrase; 8], place: usize, capacity: usize) -> Beside
     ensures { result ≡ beside_of place capacity others }
 {
-    let mut b = Beside::none(capacity);
-    let mut i = 0;
-    while i < PHRASES {
-        let p = others[i];
-        b = b.with(place, p);
-        i += 1;
-    }
-    b
+    others
+        .iter()
+        .fold(Beside::none(capacity), |b, p| b.with(place, *p))
 }
 
 // Whether a phrase has no sample in common with those before the i-th.
 fn apart_from(all: [Phrase; 8], p: Phrase, i: usize) -> bool
     requires { i ≤ 8 }
-    ensures { result ≡ every_below i (λ j. apart_of p (slice_index_or all j no_phrase)) }
+    ensures { result ≡ list_all (λ q. apart_of p q) (take i all) }
 {
-    let mut ok = true;
-    let mut j = 0;
-    while j < i {
-        let q = all[j];
-        ok = ok & p.apart(q);
-        j += 1;
-    }
-    ok
+    all[..i].iter().all(|q| p.apart(*q))
 }
 
 // Whether phrases lie within the capacity, and no two have a sample in common.
@@ -229,29 +221,24 @@ pub fn good(all: [Phrase; 8], capacity: usize) -> bool
     ensures { result ≡ good_phrases capacity all }
 {
     let mut ok = true;
-    let mut i = 0;
-    while i < PHRASES {
+    for i in 0..PHRASES {
         let p = all[i];
         ok = ok & (p.ends_by(capacity) & apart_from(all, p, i));
-        i += 1;
     }
     ok
 }
 
-// The number of the phrase that begins first of those that begin at a place or behind it; 8 where none does.
-fn first_from(all: [Phrase; 8], place: usize) -> usize
-    ensures { result ≡ first_from place all }
+// The number of the phrase that begins first of those that begin at a place or behind it, if one does.
+fn first_from(all: [Phrase; 8], place: usize) -> Option<usize>
+    ensures value { result ≡ first_from place all }
+    ensures bound { IfSome result (λ k. k < 8) }
 {
-    let mut found = PHRASES;
-    let mut start = 0;
-    let mut i = 0;
-    while i < PHRASES {
+    let mut found = None;
+    for i in 0..PHRASES {
         let p = all[i];
-        if !p.is_empty() & (place <= p.start) & ((found == PHRASES) | (p.start < start)) {
-            found = i;
-            start = p.start;
+        if !p.is_empty() & (place <= p.start) & found.is_none_or(|k| p.start < all[k].start) {
+            found = Some(i);
         }
-        i += 1;
     }
     found
 }
@@ -261,11 +248,7 @@ fn move_down(data: &mut [u32], from: usize, to: usize, n: usize)
     requires { (to ≤ from) × (from + n ≤ length «data».old) }
     ensures { «data».new ≡ moved_down from to n «data».old }
 {
-    let mut i = 0;
-    while i < n {
-        data[to + i] = data[from + i];
-        i += 1;
-    }
+    data.copy_within(from..from + n, to);
 }
 
 // Moves the phrases down, in the order of their places, until no room is between them. An empty one stays.
@@ -276,10 +259,8 @@ pub fn gather(all: [Phrase; 8], data: &mut [u32]) -> [Phrase; 8]
     let mut moved = all;
     let mut from = 0;
     let mut to = 0;
-    let mut turn = 0;
-    while turn < PHRASES {
-        let k = first_from(moved, from);
-        if k < PHRASES {
+    for turn in 0..PHRASES {
+        if let Some(k) = first_from(moved, from) {
             let p = moved[k];
             let room = p.room(data.len());
             let n = room.to - room.from;
@@ -291,7 +272,6 @@ pub fn gather(all: [Phrase; 8], data: &mut [u32]) -> [Phrase; 8]
             from = room.to;
             to += n;
         }
-        turn += 1;
     }
     moved
 }

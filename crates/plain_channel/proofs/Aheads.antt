@@ -8,7 +8,7 @@ use lib.ListN.{length, get_or}
 use lib.Seq.{sets, slice}
 use lib.Ieee.{Float}
 use Rattle.binary32.specs.Leaves.{zero32}
-use Rattle.walks.specs.Walks.{fold}
+use Rattle.std.specs.List.{fold}
 use Rattle.walks.proofs.Lists.Loops.{take_most}
 use Rattle.common_types.specs.declared.Params.{Params}
 use Rattle.voice.specs.declared.Voice.{Voice}
@@ -60,7 +60,7 @@ module _ (p : Params) (m : List ℕ) where
   hots_nobody n d hs = refl
 
   pub sum_nobody : (d : Channel) (k : ℕ) → sum_at p m 0 d k ≡ zero32
-  unfolding sum_at fold
+  unfolding sum_at
   sum_nobody d k = refl
 
   -- ---- so a run may begin, and go on without them

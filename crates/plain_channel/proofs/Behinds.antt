@@ -10,7 +10,8 @@ use lib.Seq.{sets, slice, length-take-le, take-take}
 use lib.Ieee.{Float, binary32, add}
 use borrow.Author.Tests.{le-ltb}
 use Rattle.binary32.specs.Leaves.{zero32}
-use Rattle.walks.specs.Walks.{without, behind, fold}
+use Rattle.std.specs.List.{fold}
+use Rattle.walks.specs.Walks.{without, behind}
 use Rattle.walks.specs.Each.{Each}
 use Rattle.walks.proofs.Lists.Loops.{take_most}
 use Rattle.common_types.specs.declared.Params.{Params}
@@ -55,7 +56,7 @@ module _ (s : Turning) (f : Voice → Voice) where
       ap (λ (w : Voice). length (cond (s.leaves w) left rest)) each.0.turns ∙ ap (λ (b : Bool). length (cond b left rest)) each.0.stays ∙ stay_tidied others vs each.1
 
   stay_heard : (out : Float) (vs : List Voice) → AllStay vs → fold s.adds out vs ≡ fold (λ (sum : Float) (v : Voice). add binary32 sum (f v).last_sample_value) out vs
-  unfolding Each fold
+  unfolding Each
   stay_heard out [] each = refl
   stay_heard out (v ∷ vs) each = ap (λ (sum : Float). fold s.adds sum vs) (each.0.adds out) ∙ stay_heard (add binary32 out (f v).last_sample_value) vs each.1
 

@@ -5,7 +5,7 @@ use native.Mathlib.Omega.{arith}
 use mathlib.Core.List.{List, [], ◌∷◌, ◌++◌, map}
 use lib.ListN.{length, take, drop, get_or, set, take-append-drop, length-map, get_or-map, get_or-append}
 use lib.Seq.{sets, slice, length-take-le, take-suc, drop_at, get_or-take, get_or-drop}
-use Rattle.walks.specs.Walks.{fold}
+use Rattle.std.specs.List.{fold}
 use Rattle.walks.specs.Each.{Each}
 use Rattle.walks.proofs.Lists.Looks.{take-map}
 use Rattle.walks.proofs.Lists.Loops.{get_d_any}
@@ -97,16 +97,13 @@ module _ {A : Type 0} where
 -- ---- a walk over one list after another, and over what is made of each
 module _ {A S : Type 0} (f : S → A → S) where
   pub fold-append : (s : S) (xs ys : List A) → fold f s (xs ++ ys) ≡ fold f (fold f s xs) ys
-  unfolding fold
   fold-append s [] ys = refl
   fold-append s (x ∷ xs) ys = fold-append (f s x) xs ys
 
   pub fold-map : (g : A → A) (h : S → A → S) → ((s : S) (x : A) → f s (g x) ≡ h s x) → (s : S) (xs : List A) → fold f s (map g xs) ≡ fold h s xs
-  unfolding fold
   fold-map g h same s [] = refl
   fold-map g h same s (x ∷ xs) = fold-map g h same (f s (g x)) xs ∙ ap (λ (r : S). fold h r xs) (same s x)
 
   -- one more
   pub fold_next : (s : S) (l : List A) (n : ℕ) (d : A) → n < length l → fold f s (take (suc n) l) ≡ f (fold f s (take n l)) (get_or l n d)
-  unfolding fold
   fold_next s l n d below = ap (fold f s) (take-suc l n d below) ∙ fold-append s (take n l) (get_or l n d ∷ [])

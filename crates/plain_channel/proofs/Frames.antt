@@ -9,7 +9,7 @@ use lib.ListN.{length, take, drop, get_or}
 use lib.Seq.{sets, length-take-le, take_at, drop_at, get_or-drop}
 use lib.Ieee.{Float, binary32, add}
 use Rattle.binary32.specs.Leaves.{zero32}
-use Rattle.walks.specs.Walks.{any, fold}
+use Rattle.std.specs.List.{list_any, fold}
 use Rattle.walks.specs.Each.{Each}
 use Rattle.common_types.specs.declared.Params.{Params}
 use Rattle.recorder.specs.Recording.{is_recording_of}
@@ -32,8 +32,8 @@ use Rattle.plain_channel.proofs.Eases.{easy_stays, easy_soon, easy_late}
 use Rattle.plain_channel.proofs.Behinds.{Stays, AllStay, first_of, others_of, count_behind, given_behind, rest_behind, played_behind, positions_behind, hots_behind_lem, side_behind}
 
 -- ---- whether one is unfinished stays so where the first are made something else that is finished if they are
-same_unfinished : (f : Voice → Voice) (rest : List Voice) (k : ℕ) (vs : List Voice) → Each (λ (v : Voice). (f v).finished ≡ v.finished) vs → any unfinished_of (take k (map f vs ++ rest)) ≡ any unfinished_of (take k (vs ++ rest))
-unfolding any Each
+same_unfinished : (f : Voice → Voice) (rest : List Voice) (k : ℕ) (vs : List Voice) → Each (λ (v : Voice). (f v).finished ≡ v.finished) vs → list_any unfinished_of (take k (map f vs ++ rest)) ≡ list_any unfinished_of (take k (vs ++ rest))
+unfolding Each
 same_unfinished f rest k [] each = refl
 same_unfinished f rest zero (v ∷ vs) each = refl
 same_unfinished f rest (suc k) (v ∷ vs) each = ap₂ (λ (a b : Bool). not a || b) each.0 (same_unfinished f rest k vs each.1)
@@ -49,7 +49,7 @@ module _ (p : Params) (m : List ℕ) (d : Channel) (e : ℕ) where
 
   -- whether a voice is unfinished then
   abbrev sounding : Bool
-  sounding = any unfinished_of (take (count_behind d e (turning_in p d m)) (first_of d e ++ sets (drop e d.voices) 0 (kept_of (turning_in p d m) (others_of d e))))
+  sounding = list_any unfinished_of (take (count_behind d e (turning_in p d m)) (first_of d e ++ sets (drop e d.voices) 0 (kept_of (turning_in p d m) (others_of d e))))
 
   abbrev closed : Float → (Voice → Voice) → Played
   closed x f = closing x sounding (given f)

@@ -15,10 +15,9 @@ use Rattle.common_types.specs.declared.Params.{Params}
 use Rattle.recorder.specs.Recording.{is_recording_of}
 use Rattle.voice.specs.declared.Voice.{Voice}
 use Rattle.voice.specs.Voices.{blank_voice}
-use Rattle.plain_voice.specs.declared.Beat.{Beat}
 use Rattle.plain_voice.specs.declared.Hot.{Hot}
 use Rattle.pours.specs.declared.Pouring.{Pouring}
-use Rattle.pours.specs.Pours.{turns_of, Pours}
+use Rattle.pours.specs.Pours.{turns_of, Poured}
 use Rattle.channel.specs.declared.Head.{Head}
 use Rattle.channel.specs.declared.Channel.{Channel}
 use Rattle.channel.specs.Heads.{last_time}
@@ -48,8 +47,8 @@ module _ (p : Params) (m : List ℕ) (i n : ℕ) (c : Channel) (k : Side) where
   v = get_or c.voices i blank_voice
 
   -- it is, of whatever channel the others are ahead
-  module _ (voices : length c.voices ≡ 32) (below : i < min c.count 32) (may : may_ease c.head n ≡ true) (room : n ≤ length k.pour.sums) (b : Beat) (zs : List Float) (us : List ℕ) (r : Pouring)
-      (full : eqb (phrase_at c v.phrase).length 0 ≡ false) (pours : Pours (hot_at k i) v (tick_in p c v) b (recording_held m c v) n k.pour.sums zs r) (eases : r.eases ≡ true) where
+  module _ (voices : length c.voices ≡ 32) (below : i < min c.count 32) (may : may_ease c.head n ≡ true) (room : n ≤ length k.pour.sums) (zs : List Float) (us : List ℕ) (r : Pouring)
+      (full : eqb (phrase_at c v.phrase).length 0 ≡ false) (pours : Poured (hot_at k i) v (tick_in p c v) (recording_held m c v) n k.pour.sums zs r) where
     module _ (d : Channel) (hs : List Hot) (ahead : Ahead p m i n k.pour.sums d hs c k.hots) where
       abbrev w : Voice
       w = get_or d.voices i blank_voice
@@ -77,18 +76,18 @@ module _ (p : Params) (m : List ℕ) (i n : ℕ) (c : Channel) (k : Side) where
       unfolding ahead_of
       full_too = subst (λ (u : Voice). eqb (phrase_at d u.phrase).length 0 ≡ false) same_voice (of_it (λ (x : Channel). eqb (phrase_at x v.phrase).length 0 ≡ false) full)
 
-      pours_too : Pours (hot_at k i) w (tick_in p d w) b (recording_held m d w) n k.pour.sums zs r
+      pours_too : Poured (hot_at k i) w (tick_in p d w) (recording_held m d w) n k.pour.sums zs r
       unfolding ahead_of
-      pours_too = subst (λ (u : Voice). Pours (hot_at k i) u (tick_in p d u) b (recording_held m d u) n k.pour.sums zs r) same_voice
-          (of_it (λ (x : Channel). Pours (hot_at k i) v (tick_in p x v) b (recording_held m x v) n k.pour.sums zs r) pours)
+      pours_too = subst (λ (u : Voice). Poured (hot_at k i) u (tick_in p d u) (recording_held m d u) n k.pour.sums zs r) same_voice
+          (of_it (λ (x : Channel). Poured (hot_at k i) v (tick_in p x v) (recording_held m x v) n k.pour.sums zs r) pours)
 
       one_more : Ahead p m (i + 1) n zs d hs (with_voices (set c.voices i r.voice) c.count c) (set k.hots i r.hot)
       one_more =
           let apart = may_apart d.head n may_too in
-          let easy : Easy p m n d w = record { full = full_too; glides = pours_too.glides eases } in
-          subst (λ (u : Voice). Ahead p m (i + 1) n zs d hs (with_voices (set c.voices i u) c.count c) (set k.hots i r.hot)) (sym (pours_too.voice eases))
-          (subst (λ (u : Hot). Ahead p m (i + 1) n zs d hs (with_voices (set c.voices i (turns_of (tick_in p d w) (recording_held m d w) n w)) c.count c) (set k.hots i u)) (sym (pours_too.hot eases))
-          (pour_next p m n d voices_too i below_too ahead apart.0 apart.1 easy room (pours_too.sums eases)))
+          let easy : Easy p m n d w = record { full = full_too; glides = pours_too.glides } in
+          subst (λ (u : Voice). Ahead p m (i + 1) n zs d hs (with_voices (set c.voices i u) c.count c) (set k.hots i r.hot)) (sym (pours_too.voice))
+          (subst (λ (u : Hot). Ahead p m (i + 1) n zs d hs (with_voices (set c.voices i (turns_of (tick_in p d w) (recording_held m d w) n w)) c.count c) (set k.hots i u)) (sym (pours_too.hot))
+          (pour_next p m n d voices_too i below_too ahead apart.0 apart.1 easy room pours_too.sums))
 
     pub eases_one : Eases p m i n c k true (with_voices (set c.voices i r.voice) c.count c) (with_hot (with_sums zs us k) i r.hot)
     eases_one = record { ahead = one_more; head = refl; count = refl; else = record { eased = refl; next = refl; left = refl } }

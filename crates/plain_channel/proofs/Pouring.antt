@@ -2,7 +2,7 @@
 --     Still            how many have been poured;  `still_first`, `still_asks`, `still_after`, `still_eased`, none yet, what the next asks, what it comes to, and what all come to
 --     pours_one        the next is poured, as its phrase is looked up
 -- Assumes nothing.
-use mathlib.Core.Path.{◌≡◌, refl, sym, ◌∙◌, ap, subst}
+use mathlib.Core.Path.{◌≡◌, refl, ◌∙◌, ap, subst}
 use Prim.Native.Nat.{ℕ, ◌+◌, ◌≤◌, ◌<◌, min}
 use native.Mathlib.Omega.{arith}
 use mathlib.Core.Bool.{Bool, true, false, cond}
@@ -15,9 +15,8 @@ use Rattle.common_types.specs.declared.Params.{Params}
 use Rattle.voice.specs.declared.Voice.{Voice}
 use Rattle.voice.specs.declared.Tick.{Tick}
 use Rattle.voice.specs.Voices.{blank_voice}
-use Rattle.plain_voice.specs.declared.Beat.{Beat}
 use Rattle.pours.specs.declared.Pouring.{Pouring}
-use Rattle.pours.specs.Pours.{Pours}
+use Rattle.pours.specs.Pours.{Poured}
 use Rattle.channel.specs.declared.Head.{Head}
 use Rattle.channel.specs.declared.Channel.{Channel}
 use Rattle.channel.specs.Channels.{with_voices, phrase_at}
@@ -62,14 +61,12 @@ module _ {p : Params} {m : List ℕ} {n : ℕ} {c : Channel} {k : Side} where
 -- with the voice as it is read, its tick, its part of the memory, and what they are
 pub pours_one : (p : Params) (m : List ℕ) (i n : ℕ) (c : Channel) (k : Side) → length c.voices ≡ 32 → i < min c.count 32 → may_ease c.head n ≡ true → n ≤ length k.pour.sums
     → (t : Tick) → t ≡ tick_in p c (get_or c.voices i none) → (ms : List ℕ) → ms ≡ recording_held m c (get_or c.voices i none) → eqb (phrase_at c (get_or c.voices i none).phrase).length 0 ≡ false
-    → (b : Beat) (zs : List Float) (us : List ℕ) (r : Pouring) → Pours (hot_at k i) (get_or c.voices i none) t b ms n k.pour.sums zs r → r.eases ≡ true
-    → Eases p m i n c k r.eases (with_voices (set c.voices i r.voice) c.count c) (with_hot (with_sums zs us k) i r.hot)
-pours_one p m i n c k voices below may room t is_tick ms is_memory full b zs us r pours eases =
+    → (zs : List Float) (us : List ℕ) (r : Pouring) → Poured (hot_at k i) (get_or c.voices i none) t ms n k.pour.sums zs r
+    → Eases p m i n c k true (with_voices (set c.voices i r.voice) c.count c) (with_hot (with_sums zs us k) i r.hot)
+pours_one p m i n c k voices below may room t is_tick ms is_memory full zs us r pours =
     let same : get_or c.voices i none ≡ get_or c.voices i blank_voice = get_d_any c.voices i none blank_voice (omega (arith, voices, below)) in
-    subst (λ (z : Bool). Eases p m i n c k z (with_voices (set c.voices i r.voice) c.count c) (with_hot (with_sums zs us k) i r.hot)) (sym eases)
-    (eases_one p m i n c k voices below may room b zs us r
+    eases_one p m i n c k voices below may room zs us r
     (subst (λ (v : Voice). eqb (phrase_at c v.phrase).length 0 ≡ false) same full)
-    (subst (λ (v : Voice). Pours (hot_at k i) v (tick_in p c v) b (recording_held m c v) n k.pour.sums zs r) same
-    (subst (λ (u : Tick). Pours (hot_at k i) (get_or c.voices i none) u b (recording_held m c (get_or c.voices i none)) n k.pour.sums zs r) is_tick
-    (subst (λ (l : List ℕ). Pours (hot_at k i) (get_or c.voices i none) t b l n k.pour.sums zs r) is_memory pours)))
-    eases)
+    (subst (λ (v : Voice). Poured (hot_at k i) v (tick_in p c v) (recording_held m c v) n k.pour.sums zs r) same
+    (subst (λ (u : Tick). Poured (hot_at k i) (get_or c.voices i none) u (recording_held m c (get_or c.voices i none)) n k.pour.sums zs r) is_tick
+    (subst (λ (l : List ℕ). Poured (hot_at k i) (get_or c.voices i none) t l n k.pour.sums zs r) is_memory pours)))

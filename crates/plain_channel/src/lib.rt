@@ -93,8 +93,7 @@ fn cool_glide(c: &mut Channel, side: &mut Side, t: Tick, g: Going, n: usize, dat
         side.new result }
 {
     let mut output = g.output;
-    let mut i = g.place;
-    while i < n {
+    for i in g.place..n {
         if side.hots[i].plain {
             return lent_channel::glided(i, output);
         }
@@ -106,9 +105,8 @@ fn cool_glide(c: &mut Channel, side: &mut Side, t: Tick, g: Going, n: usize, dat
         let w = q.voice;
         c.voices[i] = w;
         output = lent_channel::added(output, w);
-        i = i + 1;
     }
-    lent_channel::glided(i, output)
+    lent_channel::glided(n, output)
 }
 
 // Plain voices take their turns in place, from the next on and before the n-th, up to the first that isn't plain or
@@ -127,8 +125,7 @@ fn hot_glide(
         side.new result }
 {
     let mut output = g.output;
-    let mut i = g.place;
-    while i < n {
+    for i in g.place..n {
         let h = side.hots[i];
         if !h.plain {
             return lent_channel::glided(i, output);
@@ -147,9 +144,8 @@ fn hot_glide(
         side.hots[i].place = next.place;
         side.hots[i].lap = next.lap;
         output = lent_channel::added(output, w);
-        i = i + 1;
     }
-    lent_channel::glided(i, output)
+    lent_channel::glided(n, output)
 }
 
 // The voice that stood at g's place has taken its turn, or rested, and stands at g's count of those that stay if it does:
@@ -223,7 +219,7 @@ fn go_on(
 }
 
 // Each voice from g's place on takes its turn if its phrase isn't empty; those that are then to be removed leave, and the
-// others move up in order, with their positions.
+// others move up in order, with their positions. No `for`: a turn of the loop goes on by as many voices as glide.
 fn play(
     c: &mut Channel,
     side: &mut Side,
@@ -321,7 +317,7 @@ fn ease_next(
     }
     let t = Tick::measured(params, m, c.head.moment_on(k, phrase.length));
     let room = phrase.room(data.len());
-    let r = pours::poured(
+    let poured = pours::poured(
         h,
         v,
         t,
@@ -331,11 +327,12 @@ fn ease_next(
         &mut side.pour.values,
         n,
     );
-    if r.eases {
-        c.voices[i] = r.voice;
-        side.hots[i] = r.hot;
-    }
-    r.eases
+    let Some(r) = poured else {
+        return false;
+    };
+    c.voices[i] = r.voice;
+    side.hots[i] = r.hot;
+    true
 }
 
 // Pours the first voices, as many as ease over n samples one after the other, and says how many.
@@ -346,14 +343,12 @@ fn ease(c: &mut Channel, side: &mut Side, params: Params, n: usize, data: &[u32]
 {
     let turns = channel::places(c.count);
     let m = params.measure();
-    let mut i: usize = 0;
-    while i < turns {
+    for i in 0..turns {
         if !ease_next(c, side, i, n, params, m, data) {
             return i;
         }
-        i = i + 1;
     }
-    i
+    turns
 }
 
 // So many samples are poured at a time of those to go.

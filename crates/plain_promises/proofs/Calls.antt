@@ -10,6 +10,8 @@ use lib.Dec.{eqb, ltb}
 use lib.ListN.{length, get_or, set, length-set}
 use lib.Seq.{get_or-set_same, get_or-set_other}
 use lib.Ieee.{Float}
+use Rattle.std.specs.Prelude.{is_ok}
+use Rattle.refusals.proofs.Codes.{zero_at, done_is}
 use Rattle.binary32.specs.Leaves.{zero32}
 use Rattle.common_types.specs.declared.Params.{Params}
 use Rattle.walks.proofs.Tests.{either}
@@ -20,13 +22,13 @@ use Rattle.channel.specs.declared.Change.{Change}
 use Rattle.plain_channel.specs.declared.Side.{Side}
 use Rattle.plain_channel.specs.Sides.{cold_side, with_hots, taken_at, side_after}
 use Rattle.sampler.specs.declared.Sampler.{Sampler}
-use Rattle.sampler.specs.Refusals.{channel_at, sample_number, frame_number}
+use Rattle.sampler.specs.Refusals.{channel_at, sample_judged, frame_judged}
 use Rattle.sampler.specs.Samplers.{change_of, Steps, part_of, channel_stepped_of, Framed, framed, entry_of}
 use Rattle.sampler.proofs.Rows.{frame_steps}
 use Rattle.plain_sampler.specs.declared.Backing.{Backing}
 use Rattle.plain_sampler.specs.Backings.{side_at, with_side, change_backing, side_stepped, sample_backing, entries_backing, frame_backing}
 use Rattle.fates.specs.Events.{idle, sounds, is_sample}
-use Rattle.promises.specs.Runs.{World, Call, change, sample, frame, read_wave, gather, asks, code, chan, done_to, event}
+use Rattle.promises.specs.Runs.{World, Call, change, sample, frame, read_wave, gather, asks, chan, done_to, event, call_judged}
 use Rattle.promises.proofs.Apart.{part_apart, channel_apart}
 use Rattle.plain_promises.specs.Backed.{beside_after}
 use Rattle.plain_promises.specs.Members.{hot_in}
@@ -135,8 +137,10 @@ module _ (w : World) (k : Backing) (two : length k.sides ≡ 2) (j : ℕ) (below
         λ t. side_after (a t) (b t) (chan w j) (c t) (side_at k j)
 
     sample_side : (i : ℕ) (y : Float) (q : Params) → event w (sample i y q) j ≡ sounds p x own → side_at (sample_backing s i y q m k) j ≡ side_after p x (chan w j) own (side_at k j)
-    unfolding event code done_to sample_backing
-    sample_side i y q h = go (eqb (sample_number s i q (length m)) 0) (eqb i j) refl h
+    unfolding event call_judged done_to sample_backing
+    sample_side i y q h =
+        subst (λ (z : Bool). side_at (cond z (side_stepped s i q y m k) k) j ≡ side_after p x (chan w j) own (side_at k j)) (done_is (sample_judged s i q (length m)))
+        (go (is_ok (sample_judged s i q (length m))) (eqb i j) refl h)
       where
         go : (a b : Bool) → eqb i j ≡ b → cond a (cond b (sounds q y (part_of s j m)) idle) idle ≡ sounds p x own
             → side_at (cond a (side_stepped s i q y m k) k) j ≡ side_after p x (chan w j) own (side_at k j)
@@ -147,20 +151,22 @@ module _ (w : World) (k : Backing) (two : length k.sides ≡ 2) (j : ℕ) (below
             ∙ same_side q y (part_of s j m) h
 
     frame_side : (xs : List Float) (q : Params) → event w (frame xs q) j ≡ sounds p x own → side_at (frame_backing s xs q m k) j ≡ side_after p x (chan w j) own (side_at k j)
-    unfolding event code done_to frame_backing
-    frame_side xs q h = go (eqb (frame_number s (length xs) q (length m)) 0) refl (ltb j (length xs)) refl h
+    unfolding event call_judged done_to frame_backing
+    frame_side xs q h =
+        subst (λ (z : Bool). side_at (cond z (entries_backing q (length xs) 0 (framed s xs m) k) k) j ≡ side_after p x (chan w j) own (side_at k j)) (done_is (frame_judged s (length xs) q (length m)))
+        (go (is_ok (frame_judged s (length xs) q (length m))) refl (ltb j (length xs)) refl h)
       where
-        go : (a : Bool) → eqb (frame_number s (length xs) q (length m)) 0 ≡ a → (b : Bool) → ltb j (length xs) ≡ b
+        go : (a : Bool) → is_ok (frame_judged s (length xs) q (length m)) ≡ a → (b : Bool) → ltb j (length xs) ≡ b
             → cond a (cond b (sounds q (get_or xs j zero32) (part_of s j m)) idle) idle ≡ sounds p x own
             → side_at (cond a (entries_backing q (length xs) 0 (framed s xs m) k) k) j ≡ side_after p x (chan w j) own (side_at k j)
         go false e b f h = absurd (not_idle h)
         go true e false f h = absurd (not_idle h)
         go true e true f h =
-            frame_own s xs q m (frame_steps s (length xs) q (length m) (eqb-true _ 0 e)) k two j (ltb-true j (length xs) f) ∙ same_side q (get_or xs j zero32) (part_of s j m) h
+            frame_own s xs q m (frame_steps s (length xs) q (length m) (zero_at _ e)) k two j (ltb-true j (length xs) f) ∙ same_side q (get_or xs j zero32) (part_of s j m) h
 
     no_sample : (c : Call) → is_sample (done_to w c j) ≡ false → event w c j ≡ sounds p x own → ⊥
     unfolding event is_sample
-    no_sample c q h = go (eqb (code w c) 0) h
+    no_sample c q h = go (is_ok (call_judged w c)) h
       where
         go : (b : Bool) → cond b (done_to w c j) idle ≡ sounds p x own → ⊥
         go true h = true≢false (sym (ap is_sample h) ∙ q)
@@ -177,8 +183,10 @@ module _ (w : World) (k : Backing) (two : length k.sides ≡ 2) (j : ℕ) (below
 
   -- what is no sample of it leaves the positions beside its voices
   quiet_sample : (i : ℕ) (y : Float) (q : Params) → is_sample (event w (sample i y q) j) ≡ false → side_at (sample_backing s i y q m k) j ≡ side_at k j
-  unfolding event code done_to sample_backing is_sample
-  quiet_sample i y q h = go (eqb (sample_number s i q (length m)) 0) (eqb i j) refl h
+  unfolding event call_judged done_to sample_backing is_sample
+  quiet_sample i y q h =
+      subst (λ (z : Bool). side_at (cond z (side_stepped s i q y m k) k) j ≡ side_at k j) (done_is (sample_judged s i q (length m)))
+      (go (is_ok (sample_judged s i q (length m))) (eqb i j) refl h)
     where
       go : (a b : Bool) → eqb i j ≡ b → is_sample (cond a (cond b (sounds q y (part_of s j m)) idle) idle) ≡ false → side_at (cond a (side_stepped s i q y m k) k) j ≡ side_at k j
       go false b e h = refl
@@ -186,8 +194,10 @@ module _ (w : World) (k : Backing) (two : length k.sides ≡ 2) (j : ℕ) (below
       go true true e h = absurd (true≢false h)
 
   quiet_frame : (xs : List Float) (q : Params) → is_sample (event w (frame xs q) j) ≡ false → side_at (frame_backing s xs q m k) j ≡ side_at k j
-  unfolding event code done_to frame_backing is_sample
-  quiet_frame xs q h = go (eqb (frame_number s (length xs) q (length m)) 0) (ltb j (length xs)) refl h
+  unfolding event call_judged done_to frame_backing is_sample
+  quiet_frame xs q h =
+      subst (λ (z : Bool). side_at (cond z (entries_backing q (length xs) 0 (framed s xs m) k) k) j ≡ side_at k j) (done_is (frame_judged s (length xs) q (length m)))
+      (go (is_ok (frame_judged s (length xs) q (length m))) (ltb j (length xs)) refl h)
     where
       go : (a b : Bool) → ltb j (length xs) ≡ b → is_sample (cond a (cond b (sounds q (get_or xs j zero32) (part_of s j m)) idle) idle) ≡ false
           → side_at (cond a (entries_backing q (length xs) 0 (framed s xs m) k) k) j ≡ side_at k j

@@ -5,10 +5,10 @@ use mathlib.Core.List.{List, [], ◌∷◌}
 use mathlib.Core.Option.{Option, some}
 use Prim.Native.Nat.{ℕ, ◌+◌, ◌<◌}
 use native.Mathlib.Omega.{arith}
-use borrow.Author.Tests.{eq-eqb}
 use lib.ListN.{length, get_or, get_elem?}
 use lib.Seq.{get_or-take}
 use lib.Ieee.{Float}
+use Rattle.refusals.proofs.Codes.{done_at}
 use Rattle.walks.proofs.Tests.{and-true, and_assoc}
 use Rattle.walks.proofs.Lists.Looks.{look_below, look-value, look_last}
 use Rattle.common_types.specs.declared.Params.{Params}
@@ -34,7 +34,7 @@ use Rattle.fates.specs.Places.{Housed, Place, at, gone, voice_at, follow, follow
 use Rattle.fates.proofs.Lives.{live_length}
 use Rattle.fates.proofs.Clocks.{setting_after_lem, clock_still}
 use Rattle.fates.proofs.Tracks.{at_same, gone_never, tracks}
-use Rattle.promises.specs.Runs.{World, Call, start, code, after, chan, done_to, event, events}
+use Rattle.promises.specs.Runs.{World, Call, start, code, after, chan, done_to, event, events, call_judged}
 use Rattle.promises.specs.Demands.{is_empty}
 use Rattle.promises.proofs.Calls.{Standing, standing_after}
 use Rattle.promises.proofs.Accepted.{start_room}
@@ -92,7 +92,7 @@ module _ (w : World) (st : Standing w) (j : ℕ) (here : j < w.sampler.count) wh
 
     moved : d ≡ act (changes (Start p position note velocity)) c
     unfolding event done_to
-    moved = next w st j here b ∙ ap (λ (e : Event). act e c) (rw (eq-eqb (code w b) 0 ok) refl)
+    moved = next w st j here b ∙ ap (λ (e : Event). act e c) (rw (done_at (call_judged w b) ok) refl)
 
     stands : voice_at d n ≡ some born
     stands = subst (λ (l : List Voice). get_elem? l n ≡ some born) (sym (takes w st j here position note velocity p ok some_data)) (look_last (live c) born)

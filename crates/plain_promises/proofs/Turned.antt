@@ -12,40 +12,24 @@ use Rattle.walks.specs.Walks.{without}
 use Rattle.walks.proofs.Lists.Looks.{never, look_below, look-value}
 use Rattle.walks.proofs.Lists.Runs.{run_front}
 use Rattle.common_types.specs.declared.Params.{Params}
-use Rattle.common_types.specs.declared.NoteOffBehaviour.{NoteOffBehaviour}
-use Rattle.common_types.specs.declared.NoteOffBehaviour.TheVariants as off
-use Rattle.volume.specs.Levels.{is_static_and_mute_of}
 use Rattle.phrases.specs.Phrases.{stored_in}
 use Rattle.voice.specs.declared.Voice.{Voice}
 use Rattle.voice.specs.declared.Tick.{Tick}
-use Rattle.voice.specs.Voices.{late_of, over_of, should_remove_of, product_of, turn_of}
 use Rattle.plain_voice.specs.declared.Hot.{Hot}
 use Rattle.plain_voice.specs.Hots.{cold, judged_of}
 use Rattle.channel.specs.declared.Head.{Head}
 use Rattle.channel.specs.declared.Channel.{Channel}
-use Rattle.channel.specs.Channels.{live, Turning, kept_of, added_of, turning_by, turning_of, phrase_at, moment_for, turning_in, taken_of, memory_of}
+use Rattle.channel.specs.Channels.{live, Turning, kept_of, turning_of, phrase_at, moment_for, turning_in, taken_of, memory_of}
 use Rattle.plain_channel.specs.declared.Side.{Side}
 use Rattle.plain_channel.specs.Sides.{hots_kept, side_played, side_after}
-use Rattle.fates.specs.Engine.{passes_over, voice_turned, lets_go, leaves_of, turns_by, moment_at, held_at, turns_in}
+use Rattle.fates.specs.Engine.{moment_at, held_at, turns_in}
 use Rattle.fates.specs.Events.{sounds}
 use Rattle.fates.specs.Places.{Housed, voice_at, at, gone, fate_of, follow}
 use Rattle.fates.proofs.Lives.{live_length}
 use Rattle.fates.proofs.Tracks.{at_same, gone_never}
+use Rattle.promises.proofs.Engine.{turns_same}
 
 -- ---- the turns that the contracts cite are those of the engine in parts
-leaves_same : (t : Tick) (u : Voice) → leaves_of t u ≡ should_remove_of t u
-unfolding leaves_of should_remove_of lets_go over_of
-leaves_same t u = rw (lets t.note_off_behavior) refl
-  where
-    lets : (mode : NoteOffBehaviour) → lets_go mode t u ≡ over_of mode (is_static_and_mute_of u.volume) (late_of t u)
-    lets off.Decay = refl
-    lets off.ZeroCrossing = refl
-    lets off.DecayAndZeroCrossing = refl
-
-turns_same : (t : Tick) (m : List ℕ) → turns_by t m ≡ turning_by t m
-unfolding turns_by turning_by voice_turned turn_of passes_over
-turns_same t m = λ i. record { turn = turn_of t m; leaves = λ (u : Voice). leaves_same t u i; adds = λ (out : Float) (v : Voice). added_of (should_remove_of t v) out (product_of t m v) }
-
 turning_same : (p : Params) (x : Float) (m : List ℕ) (c : Channel) → turning_in p (taken_of m c) (memory_of x c m) ≡ turns_in p x m c
 unfolding turning_in moment_at held_at
 turning_same p x m c =

@@ -1,13 +1,14 @@
 -- A run of frames leaves beside the record what its frame calls leave, one after the other, with nothing poured. Assumes nothing.
+use borrow.Author.Tests.{eq-eqb}
 use mathlib.Core.Path.{◌≡◌, refl, sym, ap, ◌∙◌, subst}
 use mathlib.Core.List.{List, [], ◌∷◌, ◌++◌}
 use Prim.Native.Nat.{ℕ, zero, suc, ◌+◌, ◌*◌, ◌≤◌}
 use native.Mathlib.Nat.{suc-mul}
 use native.Mathlib.Omega.{arith}
-use borrow.Author.Tests.{eq-eqb}
 use lib.ListN.{length, take, drop, length-drop}
 use lib.Seq.{length-take-le}
 use lib.Ieee.{Float}
+use Rattle.refusals.proofs.Codes.{done_at}
 use Rattle.walks.specs.Each.{Each}
 use Rattle.common_types.specs.declared.InitParams.{InitParams}
 use Rattle.common_types.specs.declared.Params.{Params}
@@ -17,7 +18,7 @@ use Rattle.sampler.specs.Soundness.{FittingSampler}
 use Rattle.sampler.proofs.RunRows.{done_turns}
 use Rattle.plain_sampler.specs.declared.Backing.{Backing}
 use Rattle.plain_sampler.specs.Backings.{entries_backing, frame_backing, frames_backing, rested_backing, run_backing}
-use Rattle.promises.specs.Runs.{World, set_up, Call, frame, code, after, run, Made, one, frames, frames_done, frame_calls, spread, made, makes, spread_all, Accepted, FittingMade}
+use Rattle.promises.specs.Runs.{World, set_up, Call, frame, code, after, run, Made, one, frames, frames_done, frame_calls, spread, made, makes, spread_all, Accepted, FittingMade, call_judged}
 use Rattle.promises.proofs.Calls.{kept}
 use Rattle.promises.proofs.Turns.{in_turn}
 use Rattle.promises.proofs.Makes.{whole}
@@ -36,11 +37,11 @@ module _ (w : World) (xs : List Float) (p : Params) (k : Backing) (ok : code w (
   size = length-take-le n xs long
 
   frame_is : framed_of w.sampler (take n xs) p w.memory ≡ entries_of p n 0 front
-  unfolding framed_of code
-  frame_is = rw (eq-eqb (code w (frame (take n xs) p)) 0 ok) (ap (λ (c : ℕ). entries_of p c 0 front) size)
+  unfolding framed_of call_judged
+  frame_is = rw (done_at (call_judged w (frame (take n xs) p)) ok) (ap (λ (c : ℕ). entries_of p c 0 front) size)
 
   beside_is : beside_after w (frame (take n xs) p) k ≡ entries_backing p n 0 front k
-  unfolding beside_after frame_backing code
+  unfolding beside_after frame_backing call_judged
   beside_is = rw (eq-eqb (code w (frame (take n xs) p)) 0 ok) (ap (λ (c : ℕ). entries_backing p c 0 front k) size)
 
   -- the run goes on behind it

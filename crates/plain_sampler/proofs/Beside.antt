@@ -1,6 +1,10 @@
 -- What stands beside the record after a change and after a sample, as the code has it, which reads a channel and a side where they stand. Assumes nothing.
-use Rattle.std.proofs.Common.{◌≡◌, refl, ap, sym, ◌∙◌, ℕ, ◌+◌, ◌-◌, ◌*◌, ◌<◌, Bool, false, cond, List, length, get_or, take, drop, set, length-set, arith, eq-eqb, ne_eqb}
+use Rattle.std.proofs.Common.{◌≡◌, refl, ap, sym, ◌∙◌, ℕ, ◌+◌, ◌-◌, ◌*◌, ◌<◌, Bool, false, cond, List, length, get_or, take, drop, set, length-set, arith, eqb}
 use lib.Ieee.{Float}
+use Rattle.std.specs.Prelude.{Result, Ok, Err}
+use Rattle.refusals.specs.declared.Refusal.{Refusal}
+use Rattle.refusals.specs.Refusals.{code_of}
+use Rattle.refusals.proofs.Codes.{numbered}
 use Rattle.walks.proofs.Lists.Loops.{get_d_any}
 use Rattle.common_types.specs.declared.Params.{Params}
 use Rattle.plain_voice.specs.declared.Hot.{Hot}
@@ -13,7 +17,7 @@ use Rattle.plain_channel.specs.Ahead.{rested_side, side_behind}
 use Rattle.plain_channel.proofs.Aheads.{hots_none}
 use Rattle.sampler.specs.declared.Answer.{Answer}
 use Rattle.sampler.specs.declared.Sampler.{Sampler}
-use Rattle.sampler.specs.Refusals.{channel_at, sample_number}
+use Rattle.sampler.specs.Refusals.{channel_at, sample_judged}
 use Rattle.sampler.specs.Samplers.{change_of}
 use Rattle.sampler.proofs.Seats.{none}
 use Rattle.sampler.proofs.Parts.{part_is}
@@ -61,15 +65,15 @@ module _ (k : Backing) (spare : Side) (both : length k.sides ≡ 2) where
 
 -- ---- a sample of one channel
 module _ (s : Sampler) (k : Backing) (j : ℕ) (x : Float) (p : Params) (m : List ℕ) where
-  abbrev number : ℕ
-  number = sample_number s j p (length m)
+  abbrev left : Result (Unit {0}) Refusal → Backing
+  left d = cond (eqb (code_of d) 0) (side_stepped s j p x m k) k
 
-  pub beside_refused : (number ≡ 0 → ⊥) → k ≡ sample_backing s j x p m k
+  pub beside_refused : (f : Refusal) → sample_judged s j p (length m) ≡ Err f → k ≡ sample_backing s j x p m k
   unfolding sample_backing
-  beside_refused h = sym (ap (λ (b : Bool). cond b (side_stepped s j p x m k) k) (ne_eqb number 0 h))
+  beside_refused f e = sym (ap left e ∙ ap (λ (b : Bool). cond b (side_stepped s j p x m k) k) (numbered f))
 
   -- on the part, which begins at a
-  pub beside_played : number ≡ 0 → (a : ℕ) → a ≡ j * s.capacity → j < 2 → length s.channels ≡ 2 → length k.sides ≡ 2 → (spare y : Side)
+  pub beside_played : sample_judged s j p (length m) ≡ Ok tt → (a : ℕ) → a ≡ j * s.capacity → j < 2 → length s.channels ≡ 2 → length k.sides ≡ 2 → (spare y : Side)
       → y ≡ side_after p x (get_or s.channels j none) (take (a + s.capacity - a) (drop a m)) (get_or k.sides j spare) → with_side k j y ≡ sample_backing s j x p m k
   unfolding sample_backing side_stepped
   beside_played accepted a starts low two both spare y follows =
@@ -77,4 +81,4 @@ module _ (s : Sampler) (k : Backing) (j : ℕ) (x : Float) (p : Params) (m : Lis
       follows ∙ (λ q. side_after p x (channel_is s two j low q) (take (a + s.capacity - a) (drop a m)) (side_is k spare both j low q)) in
       ap (with_side k j) is_y
       ∙ ap (λ (l : List ℕ). with_side k j (side_after p x (channel_at s j) l (side_at k j))) (part_is s j a (a + s.capacity) m starts refl)
-      ∙ sym (ap (λ (b : Bool). cond b (side_stepped s j p x m k) k) (eq-eqb number 0 accepted))
+      ∙ sym (ap left accepted)

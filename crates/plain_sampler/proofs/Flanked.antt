@@ -1,6 +1,10 @@
 -- The loop of a frame, and of a run, with a second record lent: what stands there after i entries, each of the channel that `seat` says. A refused call has no entry to play. Assumes nothing.
-use Rattle.std.proofs.Common.{◌≡◌, refl, sym, ap, ◌∙◌, subst, Bool, true, false, cond, List, ◌++◌, ℕ, zero, suc, ◌+◌, ◌-◌, ◌*◌, ◌<◌, add-one, zero-mul, arith, eqb, length, get_or, take, drop, set, length-set}
+use Rattle.std.proofs.Common.{◌≡◌, refl, sym, ap, ◌∙◌, subst, Bool, cond, List, ◌++◌, ℕ, zero, suc, ◌+◌, ◌-◌, ◌*◌, ◌<◌, add-one, zero-mul, arith, eqb, length, get_or, take, drop, set, length-set}
 use native.Mathlib.Nat.{sub-zero}
+use Rattle.std.specs.Prelude.{Result, Ok, Err}
+use Rattle.refusals.specs.declared.Refusal.{Refusal}
+use Rattle.refusals.specs.Refusals.{code_of}
+use Rattle.refusals.proofs.Codes.{numbered}
 use lib.Ieee.{Float, nan, binary32, mul}
 use Rattle.binary32.specs.Leaves.{zero32}
 use Rattle.walks.proofs.Lists.Loops.{get_d_any}
@@ -14,12 +18,12 @@ use Rattle.lent_channel.specs.Turns.{heard_of}
 use Rattle.plain_channel.specs.declared.Side.{Side}
 use Rattle.plain_channel.specs.Sides.{side_after}
 use Rattle.sampler.specs.declared.Sampler.{Sampler}
-use Rattle.sampler.specs.Refusals.{channel_at, frame_number}
+use Rattle.sampler.specs.Refusals.{channel_at, frame_judged}
 use Rattle.sampler.specs.Samplers.{with_channels, channel_stepped_of, output_of, memory_at, Framed, framed, run_answer}
 use Rattle.sampler.proofs.Seats.{none}
 use Rattle.sampler.proofs.Parts.{part_is, stepped_is, output-is, memory_is}
 use Rattle.lent_sampler.specs.Hearing.{at_volume}
-use Rattle.lent_sampler.specs.Numbers.{run_seat}
+use Rattle.lent_sampler.specs.Runs.{run_seat}
 use Rattle.lent_sampler.proofs.RunTurns.{turn_of}
 use Rattle.lent_sampler.proofs.RunTurned.{done_fitting, inside}
 use Rattle.plain_sampler.specs.declared.Backing.{Backing}
@@ -112,13 +116,16 @@ flanked_starts p seat n s l m f two = record { two = two; same = ap (λ (c : ℕ
 
 -- ---- the whole calls
 module _ (s : Sampler) (l : List Float) (p : Params) (m : List ℕ) (f : Backing) where
-  pub whole_frame : side_turns p (λ i. i) (cond (eqb (frame_number s (length l) p (length m)) 0) (length l) 0) 0 (framed s l m) f ≡ frame_backing s l p m f
-  unfolding frame_backing side_turns
-  whole_frame = go (eqb (frame_number s (length l) p (length m)) 0)
-    where
-      go : (b : Bool) → side_turns p (λ i. i) (cond b (length l) 0) 0 (framed s l m) f ≡ cond b (entries_backing p (length l) 0 (framed s l m) f) f
-      go true = frame_turns p (length l) 0 (framed s l m) f
-      go false = refl
+  abbrev left : Result (Unit {0}) Refusal → Backing
+  left d = cond (eqb (code_of d) 0) (entries_backing p (length l) 0 (framed s l m) f) f
+
+  pub whole_frame : frame_judged s (length l) p (length m) ≡ Ok tt → side_turns p (λ i. i) (length l) 0 (framed s l m) f ≡ frame_backing s l p m f
+  unfolding frame_backing
+  whole_frame accepted = frame_turns p (length l) 0 (framed s l m) f ∙ sym (ap left accepted)
+
+  pub frame_refused : (r : Refusal) → frame_judged s (length l) p (length m) ≡ Err r → f ≡ frame_backing s l p m f
+  unfolding frame_backing
+  frame_refused r e = sym (ap left e ∙ ap (λ (b : Bool). cond b (entries_backing p (length l) 0 (framed s l m) f) f) (numbered r))
 
   abbrev frames : ℕ
   frames = (run_answer s (length l) p (length m)).frames

@@ -26,7 +26,7 @@ use Rattle.sampler.proofs.Parts.{part_is, memory_is}
 use Rattle.sampler.proofs.Entries.{part_length}
 use Rattle.sampler.proofs.Replaced.{replaced_own, replaced_apart}
 use Rattle.lent_sampler.specs.Hearing.{at_volume}
-use Rattle.lent_sampler.specs.Numbers.{run_seat}
+use Rattle.lent_sampler.specs.Runs.{run_seat}
 use Rattle.lent_sampler.proofs.RunTurned.{Turned, turned_starts, turned_low, turned_on, turned_ends}
 use Rattle.plain_sampler.specs.declared.Backing.{Backing}
 use Rattle.plain_sampler.specs.Backings.{side_at, with_side, rested_backing, run_backing}

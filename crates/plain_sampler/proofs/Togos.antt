@@ -6,7 +6,7 @@ use Prim.Native.Nat.{ℕ, zero, suc, ◌+◌, ◌-◌, ◌/◌, ◌%◌, ◌<◌
 use native.Mathlib.Omega.{arith}
 use borrow.Author.Tests.{ne_eqb}
 use lib.Dec.{eqb}
-use Rattle.lent_sampler.specs.Numbers.{run_seat}
+use Rattle.lent_sampler.specs.Runs.{run_seat}
 use Rattle.plain_sampler.specs.Streams.{to_go}
 
 -- those of channel j from entry i on, of n

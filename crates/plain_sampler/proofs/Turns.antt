@@ -10,7 +10,7 @@ use Rattle.binary32.specs.Leaves.{zero32}
 use Rattle.common_types.specs.declared.Params.{Params}
 use Rattle.sampler.specs.declared.Sampler.{Sampler}
 use Rattle.sampler.specs.Samplers.{channel_stepped_of, output_of, Framed, framed, entry_of, entries_of}
-use Rattle.lent_sampler.specs.Numbers.{run_seat}
+use Rattle.lent_sampler.specs.Runs.{run_seat}
 use Rattle.lent_sampler.proofs.RunTurns.{turn_of}
 use Rattle.plain_sampler.specs.declared.Backing.{Backing}
 use Rattle.plain_sampler.specs.Backings.{side_stepped, entries_backing, frames_backing}

@@ -22,10 +22,10 @@ ghost use Rattle.sampler.specs.Samplers.{
   run_answer,
 };
 ghost use Rattle.sampler.specs.Samplers.{process_sample_of as sample_of, sample_memory};
-ghost use Rattle.sampler.specs.Refusals.{frame_number};
+ghost use Rattle.sampler.specs.Refusals.{frame_judged};
 ghost use Rattle.channel.specs.Channels.{process_sample_of, memory_of};
 ghost use Rattle.lent_channel.specs.Turns.{heard_of};
-ghost use Rattle.lent_sampler.specs.Hearing.{at_volume};
+ghost use Rattle.lent_sampler.specs.Hearing.{at_volume, done_in, heard_in, moved_in};
 ghost use Rattle.plain_channel.specs.Sides.{side_after};
 ghost use Rattle.plain_channel.specs.Ahead.{InRun};
 ghost use Rattle.plain_sampler.specs.Streams.{PartAlong, to_go};
@@ -40,8 +40,8 @@ ghost use Rattle.plain_sampler.specs.Backings.{
 use channel::{Change, Channel, HeadChange};
 use common_types::{Note, Params};
 use lent_channel::Heard;
-use lent_sampler::{FrameDone, Sampled};
 use plain_channel::Side;
+use refusals::Refusal;
 use sampler::{Ran, Sampler};
 
 // What is lent beside the sampler: a side for each channel.
@@ -62,16 +62,16 @@ impl Backing {
 }
 
 // Makes a change, and takes the voices that it starts.
-pub fn change(s: &mut Sampler, k: &mut Backing, change: Change) -> u8
-    ensures { (record { sampler = s.new; number = result } ≡ change_of s.old change)
+pub fn change(s: &mut Sampler, k: &mut Backing, change: Change) -> Result<(), Refusal>
+    ensures { (record { sampler = s.new; done = result } ≡ change_of s.old change)
         × (k.new ≡ change_backing s.old change k.old) }
 {
     let first = s.channels[0].count;
     let second = s.channels[1].count;
-    let number = lent_sampler::change(s, change);
+    let done = lent_sampler::change(s, change);
     plain_channel::take(&s.channels[0], &mut k.sides[0], first);
     plain_channel::take(&s.channels[1], &mut k.sides[1], second);
-    number
+    done
 }
 
 pub fn start_playing(
@@ -81,8 +81,8 @@ pub fn start_playing(
     note: Note,
     velocity: f32,
     params: Params,
-) -> u8
-    ensures { (record { sampler = s.new; number = result }
+) -> Result<(), Refusal>
+    ensures { (record { sampler = s.new; done = result }
         ≡ start_playing_of s.old position note velocity params)
         × (k.new
         ≡ change_backing s.old (Change.Start params position note velocity) k.old) }
@@ -94,30 +94,40 @@ pub fn start_playing(
     )
 }
 
-pub fn stop_playing(s: &mut Sampler, k: &mut Backing, note: Note, params: Params) -> u8
-    ensures { (record { sampler = s.new; number = result } ≡ stop_playing_of s.old note params)
+pub fn stop_playing(
+    s: &mut Sampler,
+    k: &mut Backing,
+    note: Note,
+    params: Params,
+) -> Result<(), Refusal>
+    ensures { (record { sampler = s.new; done = result } ≡ stop_playing_of s.old note params)
         × (k.new ≡ change_backing s.old (Change.Stop params note) k.old) }
 {
     change(s, k, lent_sampler::stop_of(note, params))
 }
 
-pub fn set_note_speed(s: &mut Sampler, k: &mut Backing, note: Note, speed: f32) -> u8
-    ensures { (record { sampler = s.new; number = result } ≡ set_note_speed_of s.old note speed)
+pub fn set_note_speed(
+    s: &mut Sampler,
+    k: &mut Backing,
+    note: Note,
+    speed: f32,
+) -> Result<(), Refusal>
+    ensures { (record { sampler = s.new; done = result } ≡ set_note_speed_of s.old note speed)
         × (k.new ≡ change_backing s.old (Change.Speed note speed) k.old) }
 {
     change(s, k, lent_sampler::speed_of(note, speed))
 }
 
-pub fn start_recording(s: &mut Sampler, k: &mut Backing) -> u8
-    ensures { (record { sampler = s.new; number = result } ≡ start_recording_of s.old)
+pub fn start_recording(s: &mut Sampler, k: &mut Backing) -> Result<(), Refusal>
+    ensures { (record { sampler = s.new; done = result } ≡ start_recording_of s.old)
         × (k.new
         ≡ change_backing s.old (Change.Head HeadChange.StartRecording) k.old) }
 {
     change(s, k, lent_sampler::recording_started())
 }
 
-pub fn stop_recording(s: &mut Sampler, k: &mut Backing) -> u8
-    ensures { (record { sampler = s.new; number = result } ≡ stop_recording_of s.old)
+pub fn stop_recording(s: &mut Sampler, k: &mut Backing) -> Result<(), Refusal>
+    ensures { (record { sampler = s.new; done = result } ≡ stop_recording_of s.old)
         × (k.new
         ≡ change_backing s.old (Change.Head HeadChange.StopRecording) k.old) }
 {
@@ -125,8 +135,8 @@ pub fn stop_recording(s: &mut Sampler, k: &mut Backing) -> u8
 }
 
 // 7/12's setting, of every channel.
-pub fn set_interpolation(s: &mut Sampler, k: &mut Backing, on: bool) -> u8
-    ensures { (record { sampler = s.new; number = result } ≡ set_interpolation_of s.old on)
+pub fn set_interpolation(s: &mut Sampler, k: &mut Backing, on: bool) -> Result<(), Refusal>
+    ensures { (record { sampler = s.new; done = result } ≡ set_interpolation_of s.old on)
         × (k.new
         ≡ change_backing s.old (Change.Head (HeadChange.Interpolate on)) k.old) }
 {
@@ -134,8 +144,8 @@ pub fn set_interpolation(s: &mut Sampler, k: &mut Backing, on: bool) -> u8
 }
 
 // The phrase that recording and starts take.
-pub fn choose_phrase(s: &mut Sampler, k: &mut Backing, phrase: u8) -> u8
-    ensures { (record { sampler = s.new; number = result } ≡ choose_phrase_of s.old phrase)
+pub fn choose_phrase(s: &mut Sampler, k: &mut Backing, phrase: u8) -> Result<(), Refusal>
+    ensures { (record { sampler = s.new; done = result } ≡ choose_phrase_of s.old phrase)
         × (k.new
         ≡ change_backing s.old (Change.Head (HeadChange.Choose phrase)) k.old) }
 {
@@ -143,16 +153,16 @@ pub fn choose_phrase(s: &mut Sampler, k: &mut Backing, phrase: u8) -> u8
 }
 
 // Empties a phrase that nothing uses.
-pub fn delete_phrase(s: &mut Sampler, k: &mut Backing, phrase: u8) -> u8
-    ensures { (record { sampler = s.new; number = result } ≡ delete_phrase_of s.old phrase)
+pub fn delete_phrase(s: &mut Sampler, k: &mut Backing, phrase: u8) -> Result<(), Refusal>
+    ensures { (record { sampler = s.new; done = result } ≡ delete_phrase_of s.old phrase)
         × (k.new
         ≡ change_backing s.old (Change.Head (HeadChange.Delete phrase)) k.old) }
 {
     change(s, k, lent_sampler::phrase_deleted(phrase))
 }
 
-pub fn reset(s: &mut Sampler, k: &mut Backing) -> u8
-    ensures { (record { sampler = s.new; number = result } ≡ reset_of s.old)
+pub fn reset(s: &mut Sampler, k: &mut Backing) -> Result<(), Refusal>
+    ensures { (record { sampler = s.new; done = result } ≡ reset_of s.old)
         × (k.new ≡ change_backing s.old Change.Reset k.old) }
 {
     change(s, k, lent_sampler::all_reset())
@@ -197,21 +207,22 @@ pub fn process_sample(
     input: f32,
     params: Params,
     memory: &mut [u32],
-) -> Sampled
-    ensures { ((record { sampler = s.new; output = result.output; number = result.number; moved = result.moved }
+) -> Result<Heard, Refusal>
+    ensures { ((record {
+      sampler = s.new;
+      output = (heard_in result).output;
+      done = done_in result;
+      moved = (heard_in result).moved;
+    }
         ≡ sample_of s.old channel input params memory.old)
         × (memory.new ≡ sample_memory s.old channel input params memory.old))
         × (k.new
         ≡ sample_backing s.old channel input params memory.old k.old) }
 {
-    let number = lent_sampler::sample_asked(s, channel, params, memory.len());
-    if number != 0 {
-        return lent_sampler::refused(number);
-    }
-    let capacity = s.capacity;
-    let start = sampler::part_start(channel, capacity);
-    let end = start + capacity;
-    let heard = part_sample(
+    lent_sampler::sample_judged(s, channel, params, memory.len())?;
+    let start = sampler::part_start(channel, s.capacity);
+    let end = start + s.capacity;
+    Ok(part_sample(
         &mut s.channels[channel],
         &mut k.sides[channel],
         params,
@@ -219,39 +230,36 @@ pub fn process_sample(
         memory,
         start,
         end,
-    );
-    lent_sampler::answered(heard)
+    ))
 }
 
-// A sample of each channel in turn, each entry of the frame replaced by its output.
+// A sample of each channel in turn, each entry of the frame replaced by its output. It and the run are twins of
+// lent_sampler's: a trait over the two engines would have this proof's state of the second record in its laws, and lent_sampler's
+// none, so that the generic loop would be no plainer; what is played before an entry is proved once, by lent_sampler's laws.
 pub fn process_frame(
     s: &mut Sampler,
     k: &mut Backing,
     frame: &mut [f32],
     params: Params,
     memory: &mut [u32],
-) -> FrameDone
-    ensures { ((result.number
-        ≡ frame_number s.old (length frame.old) params (length memory.old))
+) -> Result<u8, Refusal>
+    ensures { ((done_in result
+        ≡ frame_judged s.old (length frame.old) params (length memory.old))
         × Frames (framed_of s.old frame.old params memory.old) s.new
         frame.new memory.new
-        × (result.moved ≡ frame_moved s.old frame.old params memory.old))
+        × (moved_in result ≡ frame_moved s.old frame.old params memory.old))
         × (k.new
         ≡ frame_backing s.old frame.old params memory.old k.old) }
 {
-    let entries = frame.len();
-    let asked = lent_sampler::frame_asked(s, entries, params, memory.len());
-    let n = asked.entries;
+    lent_sampler::frame_judged(s, frame.len(), params, memory.len())?;
     let capacity = s.capacity;
     let mut moved = 0;
-    let mut i: usize = 0;
-    while i < n {
-        let j = lent_sampler::frame_channel(i, s.count);
-        let start = sampler::part_start(j, capacity);
+    for i in 0..frame.len() {
+        let start = sampler::part_start(i, capacity);
         let end = start + capacity;
         let heard = part_sample(
-            &mut s.channels[j],
-            &mut k.sides[j],
+            &mut s.channels[i],
+            &mut k.sides[i],
             params,
             frame[i],
             memory,
@@ -259,10 +267,9 @@ pub fn process_frame(
             end,
         );
         frame[i] = heard.output;
-        moved = lent_sampler::frame_moved(moved, heard);
-        i += 1;
+        moved += heard.moved;
     }
-    lent_sampler::frame_done(asked.number, moved)
+    Ok(moved)
 }
 
 // A sample of a run on a channel's part of the memory, with so many to go, at the parameters' volume.
@@ -311,15 +318,12 @@ pub fn process_frames(
         × (k.new
         ≡ run_backing s.old run.old params memory.old k.old) }
 {
-    let entries = run.len();
-    let asked = lent_sampler::run_asked(s, entries, params, memory.len());
-    let n = asked.entries;
+    let ran = lent_sampler::run_answer(s, run.len(), params, memory.len());
+    let n = ran.frames * s.count;
     let capacity = s.capacity;
     plain_channel::rest(&mut k.sides[0]);
     plain_channel::rest(&mut k.sides[1]);
-    let mut moved = 0;
-    let mut i: usize = 0;
-    while i < n {
+    for i in 0..n {
         let j = lent_sampler::run_channel(i, s.count);
         let start = sampler::part_start(j, capacity);
         let end = start + capacity;
@@ -335,10 +339,8 @@ pub fn process_frames(
             togo,
         );
         run[i] = heard.output;
-        moved = lent_sampler::run_moved(moved, heard);
-        i += 1;
     }
     plain_channel::rest(&mut k.sides[0]);
     plain_channel::rest(&mut k.sides[1]);
-    lent_sampler::run_done(asked.ran, moved)
+    ran
 }

@@ -1,13 +1,12 @@
 -- A voice's position as a whole number, which the plain engine keeps beside it (request 9/12). Definitions only. Assumes
 -- nothing.
-use Rattle.std.specs.Prelude.{◌≡◌, ℕ, ◌+◌, ◌-◌, ◌*◌, ◌/◌, ◌%◌, ◌^◌, ◌<◌, ◌≤◌, Bool, true, false, cond, not, ◌&&◌, List, nat_lt, Float}
+use Rattle.std.specs.Prelude.{◌≡◌, ℕ, ◌+◌, ◌-◌, ◌*◌, ◌/◌, ◌%◌, ◌^◌, ◌<◌, ◌≤◌, Bool, true, false, cond, not, ◌&&◌, List, Option, Some, nat_lt, Float}
 use Rattle.binary32.specs.Leaves.{as_whole}
 use Rattle.binary32.specs.Wholes.{is_whole_in}
 use Rattle.clip.specs.declared.Clip.{Clip}
 use Rattle.clip.specs.declared.Mode.TheVariants.{Loop}
 use Rattle.clip.specs.Positions.{elapsed_at, index_at}
 use Rattle.clip.specs.Updates.{same_mode, same_all}
-use Rattle.clip.specs.Quick.{no_index}
 use Rattle.clip.specs.Plain.{PlainClip, is_plain}
 use Rattle.voice.specs.declared.Voice.{Voice}
 use Rattle.voice.specs.declared.Tick.{Tick}
@@ -79,10 +78,10 @@ pub record Agrees (h : Hot) (c : Clip) (t : Tick) (b : Beat) (speed : Float) (la
 abbrev pub Agreeing : Hot → Clip → Tick → Beat → Float → ℕ → Bool → Type 0
 Agreeing h c t b speed last r = r ≡ true → b ≡ beat_of t → Agrees h c t b speed last
 
--- r is no index; or, if b is the tick's, the position agrees and r is the clip's index
-abbrev pub PlainIndex : Hot → Clip → Tick → Beat → Float → ℕ → Type 0
+-- r has no index; or, if b is the tick's, the position agrees and it has the clip's index
+abbrev pub PlainIndex : Hot → Clip → Tick → Beat → Float → Option ℕ → Type 0
 PlainIndex h c t b speed r =
-    r < no_index → b ≡ beat_of t → Agrees h c t b speed (2 ^ 24 - 1) × (r ≡ index_at c t.now)
+    (i : ℕ) → r ≡ Some i → b ≡ beat_of t → Agrees h c t b speed (2 ^ 24 - 1) × (i ≡ index_at c t.now)
 
 -- What a quick turn by the position promises, if b is the tick's: what a quick turn does, and that the position moved by
 -- one is that of the voice after it.

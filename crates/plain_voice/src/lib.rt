@@ -28,7 +28,8 @@ pub const LAST_WHOLE: usize = 0x100_0000;
 const LONGEST: u32 = 0x40_0000;
 
 // Whether the plain engine has the voice, and where it stands then: elapsed = lap * length + place, and start is the
-// clip's, as a whole number.
+// clip's, as a whole number. `plain` isn't an `Option` of the numbers: `Exactly` and `stepped_hot` say `plain` of every
+// position, and a turn in place stores only `place` and `lap` (plain_channel, `hot_glide`).
 #[derive(Clone, Copy)]
 pub struct Hot {
     pub place: u32,
@@ -37,13 +38,15 @@ pub struct Hot {
     pub plain: bool,
 }
 
-// A tick's lengths as whole numbers, both 0 where no voice can be plain.
+// A tick's lengths as whole numbers, both 0 where no voice can be plain: as an `Option` it is no plainer, since `agrees`
+// asks by `place < length` alone whether there is one.
 #[derive(Clone, Copy)]
 pub struct Beat {
     pub length: u32,
     pub total: u32,
 }
 
+#[tactic(auto, unfolding(crate::specs::Hots::cold))]
 pub fn cold() -> Hot
     ensures { result ≡ cold }
 {
@@ -56,6 +59,7 @@ pub fn cold() -> Hot
 }
 
 // Whether the plain engine plays a voice of that clip at that time.
+#[tactic(auto, unfolding(crate::specs::Hots::plays_plain))]
 fn plays(c: Clip, now: usize, smooth: bool) -> bool
     ensures { result ≡ plays_plain smooth c now }
 {
@@ -66,6 +70,7 @@ fn plays(c: Clip, now: usize, smooth: bool) -> bool
 }
 
 // Where such a clip stands after so many samples.
+#[tactic(auto, using(crate::proofs::Hots::sized), unfolding(crate::specs::Hots::hot_after))]
 fn hot_after(c: Clip, elapsed: usize) -> Hot
     requires { (is_plain c ≡ true) × (elapsed ≤ 2 ^ 24) }
     ensures { result ≡ hot_after c elapsed }
@@ -80,6 +85,7 @@ fn hot_after(c: Clip, elapsed: usize) -> Hot
 }
 
 // A voice that starts at that time with that clip.
+#[tactic(auto, using(crate::proofs::Hots::plays_so), unfolding(crate::specs::Hots::hot_at))]
 pub fn hot_at(c: Clip, now: usize, smooth: bool) -> Hot
     ensures { result ≡ hot_at smooth c now }
 {
@@ -92,36 +98,36 @@ pub fn hot_at(c: Clip, now: usize, smooth: bool) -> Hot
 
 impl Beat {
     // Whether a voice of that tick can be plain.
+    #[tactic(auto, unfolding(crate::specs::Hots::can_plain))]
     fn can(t: Tick) -> bool
         ensures { result ≡ can_plain t }
     {
-        let mode = t.mode;
-        let span = t.span;
-        clip::same_mode(mode, Mode::Loop)
+        (t.mode == Mode::Loop)
             & (!t.interpolates
-                & (clip::whole_in(1, LONGEST as usize, span.length)
-                    & clip::whole_in(1, LONGEST as usize, span.data_length)))
+                & (clip::whole_in(1, LONGEST as usize, t.span.length)
+                    & clip::whole_in(1, LONGEST as usize, t.span.data_length)))
     }
 
+    #[tactic(auto, using(crate::proofs::Hots::lengths_fit), unfolding(crate::specs::Hots::beat_of))]
     pub fn of(t: Tick) -> Self
         ensures { result ≡ beat_of t }
     {
-        let span = t.span;
-        if Self::can(t) {
+        if !Self::can(t) {
             return Self {
-                length: binary32::f32_to_usize(span.length) as u32,
-                total: binary32::f32_to_usize(span.data_length) as u32,
+                length: 0,
+                total: 0,
             };
         }
         Self {
-            length: 0,
-            total: 0,
+            length: binary32::f32_to_usize(t.span.length) as u32,
+            total: binary32::f32_to_usize(t.span.data_length) as u32,
         }
     }
 }
 
 impl Hot {
     // One sample on.
+    #[tactic(auto, unfolding(crate::specs::Hots::stepped_hot))]
     pub fn stepped(self, length: u32) -> Self
         ensures { result ≡ stepped_hot self length }
     {
@@ -143,6 +149,7 @@ impl Hot {
     }
 
     // That of a voice whose clip is c after its turn at that time.
+    #[tactic(auto, using(crate::proofs::Hots::plays_so), unfolding(crate::specs::Hots::judged_of))]
     pub fn judged(self, c: Clip, now: usize, smooth: bool) -> Self
         ensures { result ≡ judged_of self smooth c now }
     {
@@ -160,11 +167,10 @@ impl Hot {
     pub fn agrees(self, c: Clip, t: Tick, b: Beat, speed: f32, last: usize) -> bool
         ensures { Agreeing self c t b speed last result }
     {
-        let span = t.span;
         // Four numbers that lie side by side are compared at once.
         let same = (c.speed == 1.0)
-            & ((c.length == span.length)
-                & ((c.data_length == span.data_length) & (c.shift == 0.0)));
+            & ((c.length == t.span.length)
+                & ((c.data_length == t.span.data_length) & (c.shift == 0.0)));
         if !same {
             return false;
         }
@@ -172,30 +178,29 @@ impl Hot {
             return false;
         }
         // The tick's mode needn't be asked: a place is below the beat's length only if the tick loops.
-        let mode = c.mode;
         let elapsed = c.elapsed_at(t.now);
         let reached = (self.lap as usize) * (b.length as usize) + (self.place as usize);
-        clip::same_mode(mode, Mode::Loop)
+        (c.mode == Mode::Loop)
             & ((speed == 1.0)
                 & (((self.start as f32) == c.start)
                     & ((self.start <= b.total)
                         & ((elapsed <= last) & ((reached == elapsed) & (self.place < b.length))))))
     }
 
-    // The index now by the position, or NONE.
-    pub fn index(self, c: Clip, t: Tick, b: Beat, speed: f32) -> usize
+    // The index now by the position, where that agrees.
+    pub fn index(self, c: Clip, t: Tick, b: Beat, speed: f32) -> Option<usize>
         ensures { PlainIndex self c t b speed result }
     {
         if !self.agrees(c, t, b, speed, LAST_WHOLE - 1) {
-            return clip::NONE;
+            return None;
         }
         let total = b.total as usize;
         let s = (self.start as usize) + (self.place as usize);
         if s < total {
-            return s;
+            return Some(s);
         }
         let r = s - total;
-        if r < total { r } else { clip::NONE }
+        if r < total { Some(r) } else { None }
     }
 
     // The turn of a voice by its position.
@@ -209,15 +214,13 @@ impl Hot {
         if v.phrase != t.phrase {
             return otherwise;
         }
-        let volume = v.volume;
-        let held = volume.held(t.now);
+        let held = v.volume.held(t.now);
         if !held.keeps {
             return otherwise;
         }
-        let index = self.index(v.clip2, t, b, v.speed * t.speed);
-        if clip::NONE <= index {
+        let Some(index) = self.index(v.clip2, t, b, v.speed * t.speed) else {
             return otherwise;
-        }
+        };
         v.quick_at(t, index, voice::recorded(data, index) * held.level)
     }
 }

@@ -31,13 +31,13 @@ unfolding played_on
 played_next by played k sum is = let next : suc k ≡ k + 1 = omega arith in ap (λ (z : Float). add binary32 z by) is ∙ ap (played_on by played) next
 
 module _ (m : List ℕ) (played by : Float) (before : List ℕ) where
-  pub nothing : Fetches m played by 0 before before (record { index = 0; played = played; told = true })
+  pub nothing : Fetches m played by 0 before before (record { index = 0; played = played })
   unfolding played_on
   nothing = record { size = refl; values = λ k h. absurd (omega (arith, h)); index = λ k h. absurd (omega (arith, h)); far = refl }
 
   module _ (k : ℕ) (values : List ℕ) (r : Fetched) (f : Fetches m played by k before values r) (room : k < length before) (rest : (j : ℕ) → k ≤ j → get_or values j 0 ≡ get_or before j 0) where
     pub one_more : (index : ℕ) (x : ℕ) → index ≡ get_or values k 0 → x ≡ get_or m index 0
-        → Fetches m played by (k + 1) before (set values k x) (record { index = index; played = add binary32 r.played by; told = true })
+        → Fetches m played by (k + 1) before (set values k x) (record { index = index; played = add binary32 r.played by })
     one_more index x index_is x-is =
         let here : index ≡ get_or before k 0 = index_is ∙ rest k (omega arith) in
         record {

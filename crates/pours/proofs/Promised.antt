@@ -33,7 +33,7 @@ use Rattle.plain_voice.specs.Hots.{beat_of, Agrees, Agreeing}
 use Rattle.pours.specs.declared.Pouring.{Pouring}
 use Rattle.pours.specs.declared.Fetched.{Fetched}
 use Rattle.pours.specs.Eases.{EasesVoice, EasesAt, term_at, LastButOne, last_heard, moved_on, Added}
-use Rattle.pours.specs.Pours.{Pours, judged_on}
+use Rattle.pours.specs.Pours.{Poured, judged_on}
 use Rattle.pours.specs.Steady.{pace_of, may_go, Steady, SteadyAt, played_on, Lasts, sound_at, leveled, Places, Fetches, Gathers}
 use Rattle.pours.proofs.Turns.{last_heard_on, on_of, glides_on, turns, poured}
 use Rattle.pours.proofs.Easing.{sum_is, eases_steady, eases_lasts, played_on_lem, index_on, sounds_on, judged, place_on, moved_to}
@@ -130,20 +130,19 @@ pub laps_few : {h : Hot} {c : Clip} {t : Tick} {b : Beat} {speed : Float} {n : �
 laps_few {h} a few = omega (arith, a.stands, a.early, few, mul-le-mul_left h.lap a.profile.length_low)
 
 -- ---- what is promised of any steady voice
-module _ (h : Hot) (v : Voice) (t : Tick) (b : Beat) (m : List ℕ) (before after : List Float) where
+module _ (h : Hot) (v : Voice) (t : Tick) (m : List ℕ) (before after : List Float) where
   pub steadily : (n : ℕ) → 1 ≤ n → Steady t n v → Lasts t n v → n ≤ ListN.length before → (term : ℕ → Float) → ((k : ℕ) → k < n → term k ≡ sound_at m v.clip2 v.volume (t.now + k))
       → (index : ℕ) (value last played : Float) (r : Pouring) → index ≡ index_at v.clip2 (t.now + (n - 1)) → value ≡ term (n - 1) → LastButOne v.last_sample_value term n last
-      → played ≡ played_on (pace_of t v) v.played n → r.voice ≡ last_heard v index value last played → r.hot ≡ judged_on t m n v h → r.eases ≡ true → Added term 0 n before after → Pours h v t b m n before after r
+      → played ≡ played_on (pace_of t v) v.played n → r.voice ≡ last_heard v index value last played → r.hot ≡ judged_on t m n v h → Added term 0 n before after → Poured h v t m n before after r
   unfolding last_heard_on
-  steadily zero some s l room term is index value last played r index_is value-is last-is played_is voice_is hot_is eased added = absurd (omega (arith, some))
-  steadily (suc n) some s l room term is index value last played r index_is value-is last-is played_is voice_is hot_is eased added =
+  steadily zero some s l room term is index value last played r index_is value-is last-is played_is voice_is hot_is added = absurd (omega (arith, some))
+  steadily (suc n) some s l room term is index value last played r index_is value-is last-is played_is voice_is hot_is added =
       record {
-        own = λ g. s.own;
-        glides = λ g. glides_on m (suc n) s l;
-        voice = λ g. voice_is ∙ heard ∙ sym (turns m n s l);
-        hot = λ g. hot_is;
-        sums = λ g. poured m (suc n) s l term is before after room added;
-        else = λ g. absurd (true≢false (sym eased ∙ g));
+        own = s.own;
+        glides = glides_on m (suc n) s l;
+        voice = voice_is ∙ heard ∙ sym (turns m n s l);
+        hot = hot_is;
+        sums = poured m (suc n) s l term is before after room added;
       }
     where
       at : index ≡ index_at v.clip2 (t.now + n)
@@ -170,17 +169,6 @@ moves m h v t b (suc n) plain some few begun a s l =
     moved_to h (elapsed_at v.clip2 t.now) b.length a.stands v.clip2
     (cast_is b.length (le_trans p.length_top (lit≤ tt)) p.length_is) (cast_is h.start (le_trans p.start_top (lit≤ tt)) p.start_is) p.length_low (suc n)
     ∙ sym (judged m n v.clip2 h plain refl p a.inside begun (omega (arith, a.early, few)) s l)
-
--- nothing is promised of one that doesn't ease but that its sums are left
-pub left : (h : Hot) (v : Voice) (t : Tick) (b : Beat) (m : List ℕ) (n : ℕ) (sums : List Float) → Pours h v t b m n sums sums (record { voice = v; hot = h; eases = false })
-left h v t b m n sums = record {
-  own = λ g. absurd (true≢false (sym g));
-  glides = λ g. absurd (true≢false (sym g));
-  voice = λ g. absurd (true≢false (sym g));
-  hot = λ g. absurd (true≢false (sym g));
-  sums = λ g. absurd (true≢false (sym g));
-  else = λ g. refl;
-}
 
 -- ---- by what is gathered
 whole_index : (c : Clip) (now : ℕ) → as_whole 64 (offset_at c now) ≡ index_at c now
@@ -210,15 +198,15 @@ module _ (h : Hot) (v : Voice) (t : Tick) (b : Beat) (m : List ℕ) (before afte
 
   pub promised : (n : ℕ) → EasesAt h v t b (ListN.length m) n → n ≤ ListN.length before → (index : ℕ) (value last played : Float) (r : Pouring)
       → index ≡ plain_index h.start b.length b.total (h.place + (n - 1)) → value ≡ term_at m level index → LastButOne v.last_sample_value term n last
-      → played ≡ add binary32 v.played (as_float n) → r.voice ≡ last_heard v index value last played → r.hot ≡ moved_on h n b.length → r.eases ≡ true → Added term 0 n before after → Pours h v t b m n before after r
-  promised n E room index value last played r index_is value-is last-is played_is voice_is hot_is eased added =
-      steadily h v t b m before after n E.some (eases_steady eases) (eases_lasts eases) room term
+      → played ≡ add binary32 v.played (as_float n) → r.voice ≡ last_heard v index value last played → r.hot ≡ moved_on h n b.length → Added term 0 n before after → Poured h v t m n before after r
+  promised n E room index value last played r index_is value-is last-is played_is voice_is hot_is added =
+      steadily h v t m before after n E.some (eases_steady eases) (eases_lasts eases) room term
       (λ k below. ap (term_at m level) (on k) ∙ sounds_on eases m level level_is k below)
       index value last played r
       (index_is ∙ on (n - 1) ∙ sym (index_on eases (n - 1) (omega (arith, E.some))))
       (value-is ∙ ap (term_at m level) index_is) last-is (played_is ∙ far n E.some eases) voice_is
       (hot_is ∙ moves m h v t b n E.plain E.some (omega (arith, eases.few)) eases.begun (agrees_so E) (eases_steady eases) (eases_lasts eases))
-      eased added
+      added
     where
       eases : EasesVoice t h.start b.length b.total (as_whole 64 v.played) n v
       eases = E.eases

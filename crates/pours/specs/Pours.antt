@@ -1,6 +1,6 @@
 -- Turns of one voice in a row, and what they add to the sums of as many samples (request 9/12, for runs). Definitions only.
 -- Assumes nothing.
-use Rattle.std.specs.Prelude.{◌≡◌, ℕ, zero, suc, ◌+◌, true, false, List, [], ◌∷◌, Float}
+use Rattle.std.specs.Prelude.{◌≡◌, ℕ, zero, suc, ◌+◌, true, List, [], ◌∷◌, Option, MatchOption, Float}
 use Rattle.std.specs.Float.{binary32}
 use Rattle.std.specs.Float.Ieee.{add}
 use Rattle.voice.specs.declared.Voice.{Voice}
@@ -8,7 +8,6 @@ use Rattle.voice.specs.declared.Tick.{Tick}
 use Rattle.voice.specs.Voices.{turn_of}
 use Rattle.voice.specs.Gliding.{glides_of}
 use Rattle.plain_voice.specs.declared.Hot.{Hot}
-use Rattle.plain_voice.specs.declared.Beat.{Beat}
 use Rattle.plain_voice.specs.Hots.{judged_of}
 use Rattle.pours.specs.declared.Pouring.{Pouring}
 
@@ -51,13 +50,15 @@ judged_on t m (suc n) v h =
     let w = turn_of t m v in
     judged_on (later 1 t) m n w (judged_of h t.interpolates w.clip2 t.now)
 
--- What pouring a voice promises, if b is the tick's: where it says that the voice eases, it is one of the tick's phrase,
--- each of its turns glides, it and its position are what they are after them, and the sums have what they add. Elsewhere
--- the sums are what they were.
-pub record Pours (h : Hot) (v : Voice) (t : Tick) (b : Beat) (m : List ℕ) (n : ℕ) (before after : List Float) (r : Pouring) : Type 0 where
-  pub own : r.eases ≡ true → v.phrase ≡ t.phrase
-  pub glides : r.eases ≡ true → GlidesOn t m n v
-  pub voice : r.eases ≡ true → r.voice ≡ turns_of t m n v
-  pub hot : r.eases ≡ true → r.hot ≡ judged_on t m n v h
-  pub sums : r.eases ≡ true → after ≡ poured_on t m n v before
-  pub else : r.eases ≡ false → after ≡ before
+-- What pouring a voice that eases promises: it is one of the tick's phrase, each of its turns glides, it and its position
+-- are what they are after them, and the sums have what they add
+pub record Poured (h : Hot) (v : Voice) (t : Tick) (m : List ℕ) (n : ℕ) (before after : List Float) (r : Pouring) : Type 0 where
+  pub own : v.phrase ≡ t.phrase
+  pub glides : GlidesOn t m n v
+  pub voice : r.voice ≡ turns_of t m n v
+  pub hot : r.hot ≡ judged_on t m n v h
+  pub sums : after ≡ poured_on t m n v before
+
+-- elsewhere the sums are what they were
+abbrev pub Pours : Hot → Voice → Tick → List ℕ → ℕ → List Float → List Float → Option Pouring → Type 0
+Pours h v t m n before after r = MatchOption r (after ≡ before) (Poured h v t m n before after)

@@ -1,6 +1,6 @@
 -- When any voice is steady over n samples, plain or not, and what it then sounds (request 9/12, for runs). Definitions
 -- only. Assumes nothing.
-use Rattle.std.specs.Prelude.{◌≡◌, ℕ, zero, suc, ◌+◌, ◌-◌, ◌^◌, ◌≤◌, ◌<◌, Bool, true, false, not, ◌&&◌, cond, List, T, Float, length, get_or}
+use Rattle.std.specs.Prelude.{◌≡◌, ℕ, zero, suc, ◌+◌, ◌-◌, ◌^◌, ◌≤◌, ◌<◌, Bool, true, false, not, ◌&&◌, cond, List, Option, IfSome, T, Float, length, get_or}
 use Rattle.std.specs.Float.{binary32}
 use Rattle.std.specs.Float.Ieee.{add, mul, div, rem, neg, lt, le, is_nan, of_bits}
 use Rattle.binary32.specs.Leaves.{zero32, one32, as_float, as_whole, min_of, max_of, abs_of}
@@ -17,7 +17,6 @@ use Rattle.voice.specs.declared.Tick.{Tick}
 use Rattle.voice.specs.Voices.{over_of}
 use Rattle.plain_voice.specs.declared.Hot.{Hot}
 use Rattle.pours.specs.declared.Fetched.{Fetched}
-use Rattle.pours.specs.declared.Stood.{Stood}
 use Rattle.pours.specs.declared.Spot.{Spot}
 use Rattle.pours.specs.declared.Way.{Way}
 use Rattle.pours.specs.declared.Way.TheVariants.{Up, Down, Fold}
@@ -163,7 +162,7 @@ pub record Gathers (m : List ℕ) (t : Tick) (n : ℕ) (v : Voice) (values : Lis
 
 -- ---- its position
 
--- r denies it; or its position is that after n steady turns
-abbrev pub StoodOn : Hot → Tick → ℕ → Voice → Stood → Type 0
+-- r isn't known; or it is the position after n steady turns
+abbrev pub StoodOn : Hot → Tick → ℕ → Voice → Option Hot → Type 0
 StoodOn h t n v r =
-    r.known ≡ true → (m : List ℕ) → Steady t n v → Lasts t n v → r.hot ≡ judged_on t m n v h
+    IfSome r (λ (p : Hot). (m : List ℕ) → Steady t n v → Lasts t n v → p ≡ judged_on t m n v h)

@@ -3,7 +3,7 @@
 // through the recording; of any other the places are worked out first, and nothing is added where one isn't quickly told.
 #![tactic(auto)]
 
-ghost use Rattle.std.specs.Prelude.{◌≡◌, true, false, cond, ℕ, ◌+◌, ◌-◌, ◌%◌, ◌^◌, ◌≤◌, ◌<◌, T, length, get_or};
+ghost use Rattle.std.specs.Prelude.{◌≡◌, true, false, cond, ℕ, ◌+◌, ◌-◌, ◌%◌, ◌^◌, ◌≤◌, ◌<◌, T, length, get_or, IfSome};
 ghost use Rattle.std.specs.Float.{binary32};
 ghost use Rattle.std.specs.Float.Ieee.{sub, mul, rem, neg, lt, le};
 ghost use Rattle.binary32.specs.Leaves.{zero32, as_float, as_whole, float_of, OrLess};
@@ -11,7 +11,7 @@ ghost use Rattle.clip.specs.Positions.{travel_at, raised_of, looped_of, folded_o
 ghost use Rattle.clip.specs.Plain.{plain_index};
 ghost use Rattle.plain_voice.specs.Hots.{beat_of};
 ghost use Rattle.pours.specs.Eases.{EasesAt, term_at, LastButOne, last_heard, moved_on, Added};
-ghost use Rattle.pours.specs.Pours.{Pours};
+ghost use Rattle.pours.specs.Pours.{Pours, Poured};
 ghost use Rattle.pours.specs.Steady.{
   may_go,
   SteadyAt,
@@ -46,29 +46,23 @@ use walks::smaller;
 // The last time from which a run is worked out in one go: 2^62.
 const LATEST: usize = 0x4000_0000_0000_0000;
 
-// What pouring a voice gives: whether it eases; if so the voice and its position after all samples.
+// A voice that eases and its position, after all samples.
 #[derive(Clone, Copy)]
 pub struct Pouring {
     pub voice: Voice,
     pub hot: Hot,
-    pub eases: bool,
 }
 
-// The position of a voice after some samples, where it is known.
-#[derive(Clone, Copy)]
-struct Stood {
-    hot: Hot,
-    known: bool,
-}
-
-// The sample of a place, where it is told.
+// The sample of a place, where it is told: not an `Option`, since the loops store each and gather by `&` whether all are
+// told, so that they are made of vectors (bench/TRIED.md).
 #[derive(Clone, Copy)]
 struct Spot {
     index: u32,
     told: bool,
 }
 
-// Which way a voice goes through one lap: on through its loop or back through it, or there and back.
+// Which way a voice goes through one lap: on through its loop or back through it, or there and back. A const parameter
+// can't be of an enum, and as a number it says less.
 #[derive(Clone, Copy)]
 enum Way {
     Up,
@@ -76,12 +70,11 @@ enum Way {
     Fold,
 }
 
-// What fetching comes to, where it is told: the last index, and how far the voice has played.
+// What fetching comes to: the last index, and how far the voice has played.
 #[derive(Clone, Copy)]
 struct Fetched {
     index: usize,
     played: f32,
-    told: bool,
 }
 
 // ---- whether a voice eases
@@ -95,21 +88,18 @@ fn eases(h: Hot, v: Voice, t: Tick, b: Beat, room: usize, n: usize) -> bool
         return false;
     }
     let last = LAST_WHOLE - n;
-    let volume = v.volume;
-    let clip2 = v.clip2;
-    let span = t.span;
     h.plain
         & (!v.finished
             & ((v.phrase == t.phrase)
                 & ((1 <= n)
                     & ((b.total as usize <= room)
-                        & (volume.is_static()
-                            & ((clip2.since <= t.now)
-                                & (h.agrees(clip2, t, b, v.speed * t.speed, last)
+                        & (v.volume.is_static()
+                            & ((v.clip2.since <= t.now)
+                                & (h.agrees(v.clip2, t, b, v.speed * t.speed, last)
                                     & (clip::whole_in(0, last, v.played)
                                         & (!t.once
                                             | (v.played + binary32::usize_to_f32(n)
-                                                < span.whole_length))))))))))
+                                                < t.span.whole_length))))))))))
 }
 
 // ---- what it comes to
@@ -126,12 +116,13 @@ fn rest(x: usize, by: usize) -> usize
     if y < by { y } else { y % by }
 }
 
-// The sample that sounds at a place that may lie beyond the loop's end.
-fn index_at(start: usize, place: usize, round: usize, total: usize) -> usize
-    requires { (start ≤ 2 ^ 22) × (1 ≤ round) × (round ≤ 2 ^ 22) × (1 ≤ total) }
-    ensures { result ≡ plain_index start round total place }
+// The sample that sounds k samples on, which may be beyond the loop's end.
+fn index_at(h: Hot, b: Beat, k: usize) -> usize
+    requires { (h.start ≤ 2 ^ 22) × (1 ≤ b.length) × (b.length ≤ 2 ^ 22) × (1 ≤ b.total) × (k ≤ 2 ^ 24) }
+    ensures { result ≡ plain_index h.start b.length b.total (h.place + k) }
 {
-    rest(start + rest(place, round), total)
+    let place = rest(h.place as usize + k, b.length as usize);
+    rest(h.start as usize + place, b.total as usize)
 }
 
 // What a voice at that level adds from there.
@@ -141,46 +132,28 @@ fn term_at(data: &[u32], level: f32, index: usize) -> f32
     voice::recorded(data, index) * level
 }
 
-// What it adds before the last of n samples from that place on, `before` being what it added last.
-fn last_but_one(
-    before: f32,
-    start: usize,
-    place: usize,
-    round: usize,
-    total: usize,
-    data: &[u32],
-    level: f32,
-    n: usize,
-) -> f32
-    requires { (start ≤ 2 ^ 22) × (place < round) × (round ≤ 2 ^ 22) × (1 ≤ total) × (n ≤ 2 ^ 24) }
-    ensures { LastButOne before (λ (k : ℕ). term_at «data».now level (plain_index start round total (place + k))) n result }
+// What it adds before the last of n samples from its place on, `before` being what it added last.
+fn last_but_one(before: f32, h: Hot, b: Beat, data: &[u32], level: f32, n: usize) -> f32
+    requires { (h.start ≤ 2 ^ 22) × (1 ≤ b.length) × (b.length ≤ 2 ^ 22) × (1 ≤ b.total) × (n ≤ 2 ^ 24) }
+    ensures { LastButOne before (λ (k : ℕ). term_at «data».now level (plain_index h.start b.length b.total (h.place + k))) n result }
 {
     if n < 2 {
         return before;
     }
-    term_at(data, level, index_at(start, place + (n - 2), round, total))
+    term_at(data, level, index_at(h, b, n - 2))
 }
 
 // The voice after some samples, of which the last two were `last` and the one at that index.
+#[tactic(auto, unfolding(crate::specs::Eases::last_heard))]
 fn heard(v: Voice, index: usize, value: f32, last: f32, played: f32) -> Voice
     ensures { result ≡ last_heard v index value last played }
 {
-    let clip2 = v.clip2;
-    let volume = v.volume;
-    let note = v.note;
     Voice {
-        finished_at: v.finished_at,
         last_sample_index: index,
-        clip2,
-        volume,
-        loop_start_percent: v.loop_start_percent,
         played,
         last_sample_value: value,
-        speed: v.speed,
-        note,
-        finished: v.finished,
         is_at_zero_crossing: binary32::crossing(value, last),
-        phrase: v.phrase,
+        ..v
     }
 }
 
@@ -193,16 +166,15 @@ fn moved(h: Hot, n: usize, round: usize) -> Hot
     if s < round {
         return Hot {
             place: s as u32,
-            lap: h.lap,
-            start: h.start,
             plain: true,
+            ..h
         };
     }
     Hot {
         place: (s % round) as u32,
         lap: h.lap + (s / round) as u32,
-        start: h.start,
         plain: true,
+        ..h
     }
 }
 
@@ -213,28 +185,21 @@ fn pour(data: &[u32], from: usize, level: f32, sums: &mut [f32], at: usize, m: u
     requires { (from + m ≤ length «data».now) × (at + m ≤ length «sums».old) }
     ensures { Added (λ (k : ℕ). term_at «data».now level (from + (k - at))) at (at + m) «sums».old «sums».new }
 {
-    let mut k: usize = 0;
-    while k < m {
-        sums[at + k] = sums[at + k] + binary32::from_bits(data[from + k]) * level;
-        k += 1;
+    for k in 0..m {
+        sums[at + k] += binary32::from_bits(data[from + k]) * level;
     }
 }
 
-// Adds n samples from that place on to the first n sums, in parts that go straight on.
-fn pour_all(
-    start: usize,
-    place: usize,
-    round: usize,
-    total: usize,
-    data: &[u32],
-    level: f32,
-    sums: &mut [f32],
-    n: usize,
-)
-    requires { (start ≤ 2 ^ 22) × (place < round) × (round ≤ 2 ^ 22) × (1 ≤ total) × (total ≤ length «data».now) × (n ≤ length «sums».old) }
-    ensures { Added (λ (k : ℕ). term_at «data».now level (plain_index start round total (place + k))) 0 n «sums».old «sums».new }
+// Adds n samples from its place on to the first n sums, in parts that go straight on. No `for`: each turn goes on by as many
+// samples as its part has.
+fn pour_all(h: Hot, b: Beat, data: &[u32], level: f32, sums: &mut [f32], n: usize)
+    requires { (h.start ≤ 2 ^ 22) × (h.place < b.length) × (b.length ≤ 2 ^ 22) × (1 ≤ b.total) × (b.total ≤ length «data».now) × (n ≤ length «sums».old) }
+    ensures { Added (λ (k : ℕ). term_at «data».now level (plain_index h.start b.length b.total (h.place + k))) 0 n «sums».old «sums».new }
 {
-    let mut at = place;
+    let start = h.start as usize;
+    let round = b.length as usize;
+    let total = b.total as usize;
+    let mut at = h.place as usize;
     let mut f: usize = 0;
     while f < n {
         let from = rest(start + at, total);
@@ -248,32 +213,17 @@ fn pour_all(
 // Adds n samples of a plain voice that eases over them to the sums.
 fn plainly(h: Hot, v: Voice, t: Tick, b: Beat, data: &[u32], sums: &mut [f32], n: usize) -> Pouring
     requires { EasesAt h v t b (length «data».now) n × (n ≤ length «sums».old) }
-    ensures { Pours h v t b «data».now n «sums».old «sums».new result }
+    ensures { Poured h v t «data».now n «sums».old «sums».new result }
 {
-    let start = h.start as usize;
-    let place = h.place as usize;
-    let round = b.length as usize;
-    let total = b.total as usize;
-    let volume = v.volume;
-    let level = volume.level(t.now);
-    let last = last_but_one(
-        v.last_sample_value,
-        start,
-        place,
-        round,
-        total,
-        data,
-        level,
-        n,
-    );
-    let index = index_at(start, place + (n - 1), round, total);
+    let level = v.volume.level(t.now);
+    let last = last_but_one(v.last_sample_value, h, b, data, level, n);
+    let index = index_at(h, b, n - 1);
     let value = term_at(data, level, index);
     let played = v.played + binary32::usize_to_f32(n);
-    pour_all(start, place, round, total, data, level, sums, n);
+    pour_all(h, b, data, level, sums, n);
     Pouring {
         voice: heard(v, index, value, last, played),
-        hot: moved(h, n, round),
-        eases: true,
+        hot: moved(h, n, b.length as usize),
     }
 }
 
@@ -287,9 +237,8 @@ fn may_go(v: Voice, behavior: NoteOffBehaviour) -> bool
     if !v.finished {
         return false;
     }
-    let volume = v.volume;
     match behavior {
-        NoteOffBehaviour::Decay => volume.is_static_and_mute(),
+        NoteOffBehaviour::Decay => v.volume.is_static_and_mute(),
         NoteOffBehaviour::ZeroCrossing => true,
         NoteOffBehaviour::DecayAndZeroCrossing => true,
     }
@@ -308,46 +257,33 @@ fn steady(v: Voice, t: Tick, n: usize) -> bool
     if LATEST < t.now {
         return false;
     }
-    let volume = v.volume;
-    let clip2 = v.clip2;
-    let span = t.span;
-    let mode = t.mode;
-    let behavior = t.note_off_behavior;
-    !may_go(v, behavior)
+    !may_go(v, t.note_off_behavior)
         & ((v.phrase == t.phrase)
             & (!t.interpolates
-                & (volume.keeps(t.now + (n - 1))
-                    & clip2.same_all(span.length, v.speed * t.speed, span.data_length, mode))))
+                & (v.volume.keeps(t.now + (n - 1))
+                    & v.clip2.same_all(
+                        t.span.length,
+                        v.speed * t.speed,
+                        t.span.data_length,
+                        t.mode,
+                    ))))
 }
 
-// The position after n turns of a steady voice: that of one that isn't plain stays.
-fn position_on(h: Hot, v: Voice, t: Tick, b: Beat, n: usize) -> Stood
+// The position after n turns of a steady voice, where it is known: that of one that isn't plain stays.
+fn position_on(h: Hot, v: Voice, t: Tick, b: Beat, n: usize) -> Option<Hot>
     requires { (b ≡ beat_of t) × SteadyAt t n v }
     ensures { StoodOn h t n v result }
 {
     if !h.plain {
-        return Stood {
-            hot: h,
-            known: true,
-        };
+        return Some(h);
     }
-    let clip2 = v.clip2;
-    if t.now < clip2.since {
-        return Stood {
-            hot: h,
-            known: false,
-        };
+    if t.now < v.clip2.since {
+        return None;
     }
-    if !h.agrees(clip2, t, b, v.speed * t.speed, LAST_WHOLE - n) {
-        return Stood {
-            hot: h,
-            known: false,
-        };
+    if !h.agrees(v.clip2, t, b, v.speed * t.speed, LAST_WHOLE - n) {
+        return None;
     }
-    Stood {
-        hot: moved(h, n, b.length as usize),
-        known: true,
-    }
+    Some(moved(h, n, b.length as usize))
 }
 
 // ---- where it is at each of n samples
@@ -472,13 +408,11 @@ fn places_from(c: Clip, from: u32, values: &mut [u32], n: usize) -> bool
 {
     let mode = c.mode;
     let mut told = true;
-    let mut k: usize = 0;
-    while k < n {
+    for k in 0..n {
         let y = wrapped(mode, travel(c.shift, c.speed, from + (k as u32)), c.length);
         let p = spot_at(y, c.start, c.length, c.data_length);
         values[k] = p.index;
         told = told & ((y >= 0.0) & p.told);
-        k += 1;
     }
     told
 }
@@ -558,19 +492,18 @@ fn places_within(c: Clip, way: Way, near: f64, from: u32, values: &mut [u32], n:
     ensures { (length «values».new ≡ length «values».old) × (result ≡ true → CountedPlaces c from n «values».new) }
 {
     let mut told = true;
-    let mut k: usize = 0;
-    while k < n {
+    for k in 0..n {
         let x = size_by(way, travel(c.shift, c.speed, from + (k as u32)));
         let y = left_by(x, near, period(way, c.length));
         let p = spot_at(place_by(way, y, c.length), c.start, c.length, c.data_length);
         values[k] = p.index;
         told = told & ((y > 0.0) & p.told);
-        k += 1;
     }
     told
 }
 
-// Each way by a function of its own, so that each is a loop of its own.
+// Each way by a function of its own, so that each is a loop of its own: one function called three times with a constant is
+// made one call again, with no vectors (bench/TRIED.md).
 fn places_up(c: Clip, near: f64, from: u32, values: &mut [u32], n: usize) -> bool
     requires { (c.mode ≡ Mode.Loop) × (from + n ≤ 2 ^ 24 + 1) × (n ≤ length «values».old) }
     ensures { (length «values».new ≡ length «values».old) × (result ≡ true → CountedPlaces c from n «values».new) }
@@ -644,15 +577,13 @@ fn places_far(c: Clip, time: usize, values: &mut [u32], n: usize) -> bool
     ensures { (length «values».new ≡ length «values».old) × (result ≡ true → Places c time n «values».new) }
 {
     let mode = c.mode;
-    let mut k: usize = 0;
-    while k < n {
+    for k in 0..n {
         let y = wrapped(mode, travel_at(c, time + k), c.length);
         let p = spot_at(y, c.start, c.length, c.data_length);
         if !((y >= 0.0) & p.told) {
             return false;
         }
         values[k] = p.index;
-        k += 1;
     }
     true
 }
@@ -680,11 +611,9 @@ fn ends(played: f32, by: f32, whole: f32, n: usize) -> bool
 {
     let mut sum = played;
     let mut over = false;
-    let mut k: usize = 0;
-    while k < n {
-        sum = sum + by;
+    for k in 0..n {
+        sum += by;
         over = over | (whole <= binary32::abs(sum));
-        k += 1;
     }
     over
 }
@@ -696,12 +625,11 @@ fn lasts(v: Voice, t: Tick, far: f32, n: usize) -> bool
     ensures { result ≡ true → Lasts t n v }
 {
     if t.once & !v.finished {
-        let span = t.span;
         let speed = v.speed * t.speed;
         if (v.played > 0.0) & (speed > 0.0) {
-            return !(span.whole_length <= far);
+            return !(t.span.whole_length <= far);
         }
-        return !ends(v.played, speed, span.whole_length, n);
+        return !ends(v.played, speed, t.span.whole_length, n);
     }
     true
 }
@@ -720,41 +648,28 @@ fn fetch(data: &[u32], played: f32, by: f32, values: &mut [u32], n: usize) -> Fe
 {
     let mut index: usize = 0;
     let mut sum = played;
-    let mut k: usize = 0;
-    while k < n {
+    for k in 0..n {
         index = values[k] as usize;
         values[k] = pattern_at(data, index);
-        sum = sum + by;
-        k += 1;
+        sum += by;
     }
-    Fetched {
-        index,
-        played: sum,
-        told: true,
-    }
+    Fetched { index, played: sum }
 }
 
-// Puts what is recorded at each of n samples of a steady voice into the list. It isn't told where play-once ends it, or
+// Puts what is recorded at each of n samples of a steady voice into the list; nothing is told where play-once ends it, or
 // where a place isn't quickly worked out.
-fn gather(v: Voice, t: Tick, data: &[u32], values: &mut [u32], n: usize) -> Fetched
+fn gather(v: Voice, t: Tick, data: &[u32], values: &mut [u32], n: usize) -> Option<Fetched>
     requires { SteadyAt t n v × (n ≤ length «values».old) }
-    ensures { (length «values».new ≡ length «values».old) × (result.told ≡ true → Gathers «data».now t n v «values».new result) }
+    ensures { (length «values».new ≡ length «values».old) × IfSome result (Gathers «data».now t n v «values».new) }
 {
-    let otherwise = Fetched {
-        index: 0,
-        played: 0.0,
-        told: false,
-    };
-    let clip2 = v.clip2;
-    let speed = v.speed * t.speed;
-    if !places(clip2, t.now, values, n) {
-        return otherwise;
+    if !places(v.clip2, t.now, values, n) {
+        return None;
     }
-    let f = fetch(data, v.played, speed, values, n);
+    let f = fetch(data, v.played, v.speed * t.speed, values, n);
     if !lasts(v, t, f.played, n) {
-        return otherwise;
+        return None;
     }
-    f
+    Some(f)
 }
 
 // What the list's k-th value sounds at the volume's level then.
@@ -776,15 +691,14 @@ fn value_before(before: f32, values: &[u32], volume: Volume, time: usize, n: usi
     value_at(values, volume, time, n - 2)
 }
 
-// Adds n values at the volume's levels to the first n sums.
+// Adds n values at the volume's levels to the first n sums. A loop of its own beside `add_ramp`'s: one with a closure for the
+// level is no plainer, since the times and the counts need their bounds at each call of it.
 fn add_levels(values: &[u32], volume: Volume, time: usize, sums: &mut [f32], n: usize)
     requires { (time ≤ 2 ^ 62) × (n ≤ 2 ^ 24) × (n ≤ length «values».now) × (n ≤ length «sums».old) }
     ensures { Added (leveled «values».now volume time) 0 n «sums».old «sums».new }
 {
-    let mut k: usize = 0;
-    while k < n {
-        sums[k] = sums[k] + binary32::from_bits(values[k]) * volume.level(time + k);
-        k += 1;
+    for k in 0..n {
+        sums[k] += binary32::from_bits(values[k]) * volume.level(time + k);
     }
 }
 
@@ -801,11 +715,8 @@ fn add_ramp(values: &[u32], from: u32, over: f32, low: f32, rise: f32, sums: &mu
     requires { (from + n ≤ 2 ^ 24) × (n ≤ length «values».now) × (n ≤ length «sums».old) }
     ensures { Added (λ (k : ℕ). term_at «values».now (ramp_by over low rise (from + k)) k) 0 n «sums».old «sums».new }
 {
-    let mut k: usize = 0;
-    while k < n {
-        sums[k] = sums[k]
-            + binary32::from_bits(values[k]) * ramp_level(from + (k as u32), over, low, rise);
-        k += 1;
+    for k in 0..n {
+        sums[k] += binary32::from_bits(values[k]) * ramp_level(from + (k as u32), over, low, rise);
     }
 }
 
@@ -845,39 +756,27 @@ fn fully(
     sums: &mut [f32],
     values: &mut [u32],
     n: usize,
-) -> Pouring
+) -> Option<Pouring>
     requires { (b ≡ beat_of t) × (n ≤ length «sums».old) × (n ≤ length «values».old) }
-    ensures { Pours h v t b «data».now n «sums».old «sums».new result }
+    ensures { Pours h v t «data».now n «sums».old «sums».new result }
 {
-    let otherwise = Pouring {
-        voice: v,
-        hot: h,
-        eases: false,
-    };
     if !steady(v, t, n) {
-        return otherwise;
+        return None;
     }
-    let s = position_on(h, v, t, b, n);
-    if !s.known {
-        return otherwise;
-    }
-    let hot = s.hot;
-    let g = gather(v, t, data, values, n);
-    if !g.told {
-        return otherwise;
-    }
-    let volume = v.volume;
-    let value = value_at(values, volume, t.now, n - 1);
-    let last = value_before(v.last_sample_value, values, volume, t.now, n);
-    add_at(values, volume, t.now, sums, n);
-    Pouring {
+    let hot = position_on(h, v, t, b, n)?;
+    let g = gather(v, t, data, values, n)?;
+    let value = value_at(values, v.volume, t.now, n - 1);
+    let last = value_before(v.last_sample_value, values, v.volume, t.now, n);
+    add_at(values, v.volume, t.now, sums, n);
+    Some(Pouring {
         voice: heard(v, g.index, value, last, g.played),
         hot,
-        eases: true,
-    }
+    })
 }
 
-// Adds n samples of the voice to the sums, if it eases over them. What is left in the list of values is not to be looked at.
+// Adds n samples of the voice to the sums, if it eases over them; else they are left. What is left in the list of values is
+// not to be looked at. A count beside the buffers, since those are arrays of the lent record and `Pours` says of the sums
+// past n, too, that they stay.
 pub fn poured(
     h: Hot,
     v: Voice,
@@ -887,12 +786,12 @@ pub fn poured(
     sums: &mut [f32],
     values: &mut [u32],
     n: usize,
-) -> Pouring
+) -> Option<Pouring>
     requires { (b ≡ beat_of t) × (n ≤ length «sums».old) × (n ≤ length «values».old) }
-    ensures { Pours h v t b «data».now n «sums».old «sums».new result }
+    ensures { Pours h v t «data».now n «sums».old «sums».new result }
 {
     if eases(h, v, t, b, data.len(), n) {
-        return plainly(h, v, t, b, data, sums, n);
+        return Some(plainly(h, v, t, b, data, sums, n));
     }
     fully(h, v, t, b, data, sums, values, n)
 }

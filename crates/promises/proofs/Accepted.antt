@@ -10,7 +10,10 @@ use lib.Dec.{T, leb, eqb, ltb}
 use lib.ListN.{length, take, get_or}
 use lib.Seq.{length-take-le, get_or-take}
 use lib.Ieee.{Float, binary32, mul}
-use Rattle.walks.specs.Walks.{any}
+use Rattle.std.specs.List.{list_any}
+use Rattle.std.specs.Prelude.{Ok, is_ok}
+use Rattle.refusals.specs.declared.Refusal.TheVariants.{NoChannel, BadNote, BadPosition, BeyondLimits, Full, ClockEnd, Broken}
+use Rattle.refusals.proofs.Codes.{zero_at, passed}
 use Rattle.common_types.specs.declared.Params.{Params}
 use Rattle.common_types.specs.declared.Note.{Note}
 use Rattle.common_types.specs.Settings.{beyond_limits}
@@ -24,38 +27,36 @@ use Rattle.channel.specs.Tables.{asks_of}
 use Rattle.channel.specs.Channels.{channel_of, full_of}
 use Rattle.channel.specs.Channels.{process_sample_of as channel_sample_of}
 use Rattle.sampler.specs.declared.Sampler.{Sampler}
-use Rattle.sampler.specs.Refusals.{present, channel_at, good_sampler, good_with, no_channel, bad_note, bad_position, any_full, against_any, at_end, start_rows, sample_number, frame_number}
+use Rattle.sampler.specs.Refusals.{present, channel_at, good_sampler, good_with, no_channel, bad_note, bad_position, any_full, against_any, at_end, start_rows, sample_judged, sample_number, frame_judged, frame_number}
 use Rattle.sampler.specs.Samplers.{part_of, played_at, output_of, process_sample_of, framed, entries_of, framed_of}
-use Rattle.sampler.proofs.Rows.{passed, frame_steps}
+use Rattle.sampler.proofs.Rows.{frame_steps}
 use Rattle.sampler.proofs.Against.{against_voice}
 use Rattle.sampler.proofs.Entries.{sample_reaches, frame_reaches}
 use Rattle.fates.specs.Events.{idle, changes, gathers, sounds}
-use Rattle.promises.specs.Runs.{World, Call, change, start, sample, frame, read_wave, gather, asks, code, chan, done_to, event, output, FittingCall}
+use Rattle.promises.specs.Runs.{World, Call, change, start, sample, frame, read_wave, gather, asks, call_judged, code, chan, done_to, event, output, FittingCall}
 use Rattle.walks.proofs.Tests.{neither}
 use Rattle.promises.proofs.Apart.{frame_output}
 use Rattle.promises.proofs.Calls.{Standing}
 
 -- ---- none of a list
 module _ {A : Type 0} (p : A → Bool) where
-  pub any_at : (l : List A) (j : ℕ) (d : A) → any p l ≡ false → j < length l → p (get_or l j d) ≡ false
-  unfolding any
+  pub any_at : (l : List A) (j : ℕ) (d : A) → list_any p l ≡ false → j < length l → p (get_or l j d) ≡ false
   any_at [] j d h k = absurd (omega arith)
-  any_at (x ∷ xs) zero d h k = (neither (p x) (any p xs) h).0
-  any_at (x ∷ xs) (suc j) d h k = any_at xs j d (neither (p x) (any p xs) h).1 (omega arith)
+  any_at (x ∷ xs) zero d h k = (neither (p x) (list_any p xs) h).0
+  any_at (x ∷ xs) (suc j) d h k = any_at xs j d (neither (p x) (list_any p xs) h).1 (omega arith)
 
-  pub any_none : (l : List A) (d : A) → ((j : ℕ) → j < length l → p (get_or l j d) ≡ false) → any p l ≡ false
-  unfolding any
+  pub any_none : (l : List A) (d : A) → ((j : ℕ) → j < length l → p (get_or l j d) ≡ false) → list_any p l ≡ false
   any_none [] d h = refl
   any_none (x ∷ xs) d h = rw (h 0 (omega arith)) (any_none xs d (λ j k. h (suc j) (omega arith)))
 
-  pub any_front : (l : List A) (n j : ℕ) (d : A) → any p (take n l) ≡ false → j < n → n ≤ length l → p (get_or l j d) ≡ false
+  pub any_front : (l : List A) (n j : ℕ) (d : A) → list_any p (take n l) ≡ false → j < n → n ≤ length l → p (get_or l j d) ≡ false
   any_front l n j d h a b = ap p (sym (get_or-take n l j d a)) ∙ any_at (take n l) j d h (omega (arith, length-take-le n l b))
 
 -- ---- a start
 start_fits : (w : World) (position : Float) (note : Note) (velocity : Float) (p : Params) → code w (start position note velocity p) ≡ 0 → any_full w.sampler ≡ false
-unfolding code start_rows asks_of
+unfolding call_judged start_rows asks_of
 start_fits w position note velocity p h =
-    sym (against_voice w.sampler) ∙ (passed (against_any Voice w.sampler).blocked 4 0 (passed (beyond_limits p) 3 _ (passed (bad_position position) 2 _ (passed (bad_note note) 1 _ (passed (not (good_sampler w.sampler)) 8 _ h).1).1).1).1).0
+    sym (against_voice w.sampler) ∙ (passed (against_any Voice w.sampler).blocked Full (Ok tt) (passed (beyond_limits p) BeyondLimits _ (passed (bad_position position) BadPosition _ (passed (bad_note note) BadNote _ (passed (not (good_sampler w.sampler)) Broken _ h).1).1).1).1).0
 
 pub start_room : (w : World) → Standing w → (j : ℕ) → j < w.sampler.count → (position : Float) (note : Note) (velocity : Float) (p : Params)
     → code w (start position note velocity p) ≡ 0 → eqb (chan w j).head.data_len 0 ≡ false → (chan w j).count < 32
@@ -66,7 +67,7 @@ start_room w s j h position note velocity p k e =
 
 pub start_opens : (w : World) → Standing w → (position : Float) (note : Note) (velocity : Float) (p : Params) → good_sampler w.sampler ≡ true → bad_note note ≡ false → bad_position position ≡ false
     → beyond_limits p ≡ false → ((j : ℕ) → j < w.sampler.count → full_of (chan w j) ≡ false) → code w (start position note velocity p) ≡ 0
-unfolding code start_rows asks_of
+unfolding call_judged start_rows asks_of
 start_opens w s position note velocity p g a b c f =
     let none : Channel = channel_of (record { auto_passthru = false }) in
     let l : length (present w.sampler) ≡ w.sampler.count = length-take-le w.sampler.count w.sampler.channels (omega (arith, s.two, s.few)) in
@@ -77,14 +78,14 @@ start_opens w s position note velocity p g a b c f =
 
 -- ---- a sample of channel j
 sample_early : (s : Sampler) (j : ℕ) (p : Params) (size : ℕ) → sample_number s j p size ≡ 0 → at_end (channel_at s j) ≡ false
-unfolding sample_number
+unfolding sample_judged
 sample_early s j p size h =
-    (passed (at_end (channel_at s j)) 5 0 (passed (beyond_limits p) 3 _ (passed (no_channel s j) 0 _ (passed (not (good_with s size)) 8 _ h).1).1).1).0
+    (passed (at_end (channel_at s j)) ClockEnd (Ok tt) (passed (beyond_limits p) BeyondLimits _ (passed (no_channel s j) NoChannel _ (passed (not (good_with s size)) Broken _ h).1).1).1).0
 
-frame_early : (s : Sampler) (n : ℕ) (p : Params) (size : ℕ) → frame_number s n p size ≡ 0 → any at_end (take n s.channels) ≡ false
-unfolding frame_number
+frame_early : (s : Sampler) (n : ℕ) (p : Params) (size : ℕ) → frame_number s n p size ≡ 0 → list_any at_end (take n s.channels) ≡ false
+unfolding frame_judged
 frame_early s n p size h =
-    (passed (any at_end (take n s.channels)) 5 0 (passed (beyond_limits p) 3 _ (passed (ltb s.count n) 0 _ (passed (not (good_with s size)) 8 _ h).1).1).1).0
+    (passed (list_any at_end (take n s.channels)) ClockEnd (Ok tt) (passed (beyond_limits p) BeyondLimits _ (passed (ltb s.count n) NoChannel _ (passed (not (good_with s size)) Broken _ h).1).1).1).0
 
 pub record Heard (w : World) (c : Call) (j : ℕ) (p : Params) (x : Float) (m : List ℕ) : Type 0 where
   pub early : (chan w j).head.now < last_time
@@ -106,7 +107,7 @@ module _ (p : Params) (x : Float) (m : List ℕ) where
 
   done : (w : World) (c : Call) (j : ℕ) → event w c j ≡ sounds p x m → done_to w c j ≡ sounds p x m
   unfolding event
-  done w c j h = go (eqb (code w c) 0) h
+  done w c j h = go (is_ok (call_judged w c)) h
     where
       go : (b : Bool) → cond b (done_to w c j) idle ≡ sounds p x m → done_to w c j ≡ sounds p x m
       go true h = h
@@ -133,17 +134,17 @@ module _ (w : World) (st : Standing w) (j : ℕ) (k : j < w.sampler.count) (p : 
   mem = w.memory
 
   sample_heard : (i : ℕ) (y : Float) (q : Params) → event w (sample i y q) j ≡ sounds p x m → Heard w (sample i y q) j p x m
-  unfolding event code done_to output process_sample_of output_of played_at FittingCall s mem
-  sample_heard i y q h = go (eqb (sample_number s i q (length mem)) 0) refl (eqb i j) refl h
+  unfolding event call_judged done_to output process_sample_of output_of played_at FittingCall s mem
+  sample_heard i y q h = go (is_ok (sample_judged s i q (length mem))) refl (eqb i j) refl h
     where
-      go : (a : Bool) → eqb (sample_number s i q (length mem)) 0 ≡ a → (b : Bool) → eqb i j ≡ b → cond a (cond b (sounds q y (part_of s j mem)) idle) idle ≡ sounds p x m
+      go : (a : Bool) → is_ok (sample_judged s i q (length mem)) ≡ a → (b : Bool) → eqb i j ≡ b → cond a (cond b (sounds q y (part_of s j mem)) idle) idle ≡ sounds p x m
           → Heard w (sample i y q) j p x m
       go false e b f h = absurd (not_idle p x m h)
       go true e false f h = absurd (not_idle p x m h)
       go true e true f h =
           let z = same_sample q p y x (part_of s j mem) m h in
           let i≡j : i ≡ j = eqb-true i j f in
-          let t : sample_number s i q (length mem) ≡ 0 = eqb-true _ 0 e in
+          let t : sample_number s i q (length mem) ≡ 0 = zero_at _ e in
           let r = sample_reaches s q (length mem) i t in
           record {
             early = leb-false last_time (chan w j).head.now (subst (λ (l : ℕ). at_end (channel_at s l) ≡ false) i≡j (sample_early s i q (length mem) t));
@@ -157,17 +158,17 @@ module _ (w : World) (st : Standing w) (j : ℕ) (k : j < w.sampler.count) (p : 
           }
 
   frame_heard : (xs : List Float) (q : Params) → event w (frame xs q) j ≡ sounds p x m → Heard w (frame xs q) j p x m
-  unfolding event code done_to output framed_of FittingCall s mem
-  frame_heard xs q h = go (eqb (frame_number s (length xs) q (length mem)) 0) refl (ltb j (length xs)) refl h
+  unfolding event call_judged done_to output framed_of FittingCall s mem
+  frame_heard xs q h = go (is_ok (frame_judged s (length xs) q (length mem))) refl (ltb j (length xs)) refl h
     where
-      go : (a : Bool) → eqb (frame_number s (length xs) q (length mem)) 0 ≡ a → (b : Bool) → ltb j (length xs) ≡ b
+      go : (a : Bool) → is_ok (frame_judged s (length xs) q (length mem)) ≡ a → (b : Bool) → ltb j (length xs) ≡ b
           → cond a (cond b (sounds q (get_or xs j zero32) (part_of s j mem)) idle) idle ≡ sounds p x m → Heard w (frame xs q) j p x m
       go false e b f h = absurd (not_idle p x m h)
       go true e false f h = absurd (not_idle p x m h)
       go true e true f h =
           let z = same_sample q p (get_or xs j zero32) x (part_of s j mem) m h in
           let o : j < length xs = ltb-true j (length xs) f in
-          let t : frame_number s (length xs) q (length mem) ≡ 0 = eqb-true _ 0 e in
+          let t : frame_number s (length xs) q (length mem) ≡ 0 = zero_at _ e in
           let g = frame_steps s (length xs) q (length mem) t in
           record {
             early = leb-false last_time (chan w j).head.now (any_front at_end s.channels (length xs) j _ (frame_early s (length xs) q (length mem) t) o (omega (arith, g.below, st.two)));

@@ -11,8 +11,13 @@ use borrow.Author.Tests.{leb-true, le-leb, ltb-true, lt-ltb, eqb-true, eq-eqb}
 use lib.Dec.{leb, ltb, eqb}
 use lib.ListN.{length, take, get_or, get_elem?}
 use lib.Ieee.{Float, le, of_int}
-use Rattle.walks.specs.Walks.{every}
+use Rattle.std.specs.List.{list_all}
+use Rattle.std.specs.Prelude.{Ok}
+use Rattle.refusals.specs.declared.Refusal.TheVariants.{Broken}
+use Rattle.refusals.specs.Refusals.{code_of, row}
+use Rattle.refusals.proofs.Codes.{passed}
 use Rattle.walks.specs.Each.{Each}
+use Rattle.walks.proofs.Tests.{joined}
 use Rattle.walks.proofs.Lists.Every.{both}
 use Rattle.volume.specs.declared.Volume.{Volume}
 use Rattle.volume.specs.declared.Volume.TheVariants.{Static, Linear}
@@ -36,39 +41,32 @@ use Rattle.channel.specs.Channels.{live, phrases_in, phrase_at, channel_of, good
 use Rattle.channel.proofs.Tables.{all_good, table_good, phrase_all}
 use Rattle.channel.proofs.Kept.{new_channel_sound}
 use Rattle.sampler.specs.declared.Sampler.{Sampler}
-use Rattle.sampler.specs.Refusals.{row, present, channel_at, good_sizes, good_sampler, good_with, capacity_of, set_up_number}
-use Rattle.sampler.proofs.Rows.{passed, is_true}
+use Rattle.sampler.specs.Refusals.{present, channel_at, good_sizes, good_sampler, good_with, capacity_of, set_up_judged, set_up_number}
+use Rattle.sampler.proofs.Rows.{is_true}
 use Rattle.promises.specs.Broken.{In, GoodClip, IsVoice, IsRamp, NoOverlap, GoodChannel, GoodSizes, GoodRecord, Tabled, RowNine}
 
 -- ---- tests as facts
-pub join : (a b : Bool) → a ≡ true → b ≡ true → (a && b) ≡ true
-join a b h k = rw (h, k)
-
 -- what `every` tests holds of the element at each place
-every_place : {A : Type 0} (p : A → Bool) (l : List A) → every p l ≡ true → (n : ℕ) (x : A) → get_elem? l n ≡ some x → p x ≡ true
-unfolding every
+every_place : {A : Type 0} (p : A → Bool) (l : List A) → list_all p l ≡ true → (n : ℕ) (x : A) → get_elem? l n ≡ some x → p x ≡ true
 every_place p [] h n x e = let z : ◌≡◌ {A = ℕ} 0 1 = cc in absurd (omega arith)
-every_place p (y ∷ l) h zero x e = let q : y ≡ x = cc in ap p (sym q) ∙ (both (p y) (every p l) h).0
-every_place p (y ∷ l) h (suc n) x e = every_place p l (both (p y) (every p l) h).1 n x e
+every_place p (y ∷ l) h zero x e = let q : y ≡ x = cc in ap p (sym q) ∙ (both (p y) (list_all p l) h).0
+every_place p (y ∷ l) h (suc n) x e = every_place p l (both (p y) (list_all p l) h).1 n x e
 
-place_every : {A : Type 0} (p : A → Bool) (l : List A) → ((n : ℕ) (x : A) → get_elem? l n ≡ some x → p x ≡ true) → every p l ≡ true
-unfolding every
+place_every : {A : Type 0} (p : A → Bool) (l : List A) → ((n : ℕ) (x : A) → get_elem? l n ≡ some x → p x ≡ true) → list_all p l ≡ true
 place_every p [] h = refl
-place_every p (y ∷ l) h = join (p y) (every p l) (h 0 y refl) (place_every p l (λ n. h (suc n)))
+place_every p (y ∷ l) h = joined (p y) (list_all p l) (h 0 y refl) (place_every p l (λ n. h (suc n)))
 
 -- of the first n, where past the end stands one that passes
-front_each : {A : Type 0} (p : A → Bool) (d : A) → p d ≡ true → (l : List A) (n : ℕ) → every p (take n l) ≡ true → (j : ℕ) → j < n → p (get_or l j d) ≡ true
-unfolding every
+front_each : {A : Type 0} (p : A → Bool) (d : A) → p d ≡ true → (l : List A) (n : ℕ) → list_all p (take n l) ≡ true → (j : ℕ) → j < n → p (get_or l j d) ≡ true
 front_each p d g [] n h j k = g
 front_each p d g (x ∷ l) zero h j k = absurd (omega arith)
-front_each p d g (x ∷ l) (suc n) h zero k = (both (p x) (every p (take n l)) h).0
-front_each p d g (x ∷ l) (suc n) h (suc j) k = front_each p d g l n (both (p x) (every p (take n l)) h).1 j (omega arith)
+front_each p d g (x ∷ l) (suc n) h zero k = (both (p x) (list_all p (take n l)) h).0
+front_each p d g (x ∷ l) (suc n) h (suc j) k = front_each p d g l n (both (p x) (list_all p (take n l)) h).1 j (omega arith)
 
-each_front : {A : Type 0} (p : A → Bool) (d : A) (l : List A) (n : ℕ) → ((j : ℕ) → j < n → p (get_or l j d) ≡ true) → every p (take n l) ≡ true
-unfolding every
+each_front : {A : Type 0} (p : A → Bool) (d : A) (l : List A) (n : ℕ) → ((j : ℕ) → j < n → p (get_or l j d) ≡ true) → list_all p (take n l) ≡ true
 each_front p d l zero h = refl
 each_front p d [] (suc n) h = refl
-each_front p d (x ∷ l) (suc n) h = join (p x) (every p (take n l)) (h 0 (omega arith)) (each_front p d l n (λ j k. h (suc j) (omega arith)))
+each_front p d (x ∷ l) (suc n) h = joined (p x) (list_all p (take n l)) (h 0 (omega arith)) (each_front p d l n (λ j k. h (suc j) (omega arith)))
 
 -- what holds of the first n holds of each of them, where it holds past the end
 pub front_holds : {A : Type 0} (P : A → Type 0) (d : A) → P d → (l : List A) (n : ℕ) → Each P (take n l) → (j : ℕ) → j < n → P (get_or l j d)
@@ -85,7 +83,7 @@ length_in x h = both (le one32 x) (le x most32) h
 
 in_length : (x : Float) → In 1 (2 ^ 22) x → good_length x ≡ true
 unfolding good_length of_int
-in_length x h = join (le one32 x) (le x most32) h.0 h.1
+in_length x h = joined (le one32 x) (le x most32) h.0 h.1
 
 pub clip_good : (c : Clip) → (good_clip c ≡ true) ↔ GoodClip c
 unfolding good_clip of_int
@@ -108,8 +106,8 @@ clip_good c = (to, from)
 
     from : GoodClip c → ((a && b) && d) ≡ true
     from h =
-        join (a && b) d (join a b (in_length c.length h.length) (in_length c.data_length h.data_length))
-        (join (le zero32 c.start) (le c.start most32) h.start.0 h.start.1)
+        joined (a && b) d (joined a b (in_length c.length h.length) (in_length c.data_length h.data_length))
+        (joined (le zero32 c.start) (le c.start most32) h.start.0 h.start.1)
 
 -- ---- ramps
 record Ramped (a b now : ℕ) : Type 0 where
@@ -129,7 +127,7 @@ ramp_from : (a b now : ℕ) → Ramped a b now → good_ramp a b now ≡ true
 unfolding good_ramp
 ramp_from a b now h =
     let l : b ≤ a + 16777216 = h.short in
-    join (ltb a b && leb (b - a) (2 ^ 24)) (leb a now) (join (ltb a b) (leb (b - a) (2 ^ 24)) (lt-ltb a b h.lasts) (le-leb (b - a) (2 ^ 24) (omega arith))) (le-leb a now h.begun)
+    joined (ltb a b && leb (b - a) (2 ^ 24)) (leb a now) (joined (ltb a b) (leb (b - a) (2 ^ 24)) (lt-ltb a b h.lasts) (le-leb (b - a) (2 ^ 24) (omega arith))) (le-leb a now h.begun)
 
 abbrev Ramps : ℕ → Volume → Type 0
 Ramps now v = (a b : ℕ) (x y : Float) → v ≡ Linear a b x y → Ramped a b now
@@ -181,8 +179,8 @@ voice_from now v h =
     let s = leb v.clip2.since now in
     let f = leb v.finished_at now in
     let r = good_volume now v.volume in
-    join (ltb v.phrase 8) (((s && f) && r) && good_clip v.clip2) (lt-ltb _ _ h.phrase)
-    (join ((s && f) && r) (good_clip v.clip2) (join (s && f) r (join s f (le-leb _ _ h.since) (le-leb _ _ h.finished_at)) (volume_from now v.volume h.ramps))
+    joined (ltb v.phrase 8) (((s && f) && r) && good_clip v.clip2) (lt-ltb _ _ h.phrase)
+    (joined ((s && f) && r) (good_clip v.clip2) (joined (s && f) r (joined s f (le-leb _ _ h.since) (le-leb _ _ h.finished_at)) (volume_from now v.volume h.ramps))
     ((clip_good v.clip2).1 h.clip))
 
 -- ---- phrases
@@ -272,16 +270,16 @@ module _ (capacity : ℕ) (c : Channel) (eight : length c.table ≡ 8) where
   channel_from : GoodChannel capacity c → good_channel capacity c ≡ true
   unfolding good_channel good_head good_recorder good_voices_of
   channel_from h =
-      join (leb c.count 32 && good_head capacity c.head) (tabled && good_voices_of c)
-      (join (leb c.count 32) (good_head capacity c.head) (le-leb _ _ h.voices)
-      (join ((leb now (2 ^ 48) && lies) && good_volume now c.head.passthru_volume) (good_recorder c.head.recorder c.head.data_len capacity)
-      (join (leb now (2 ^ 48) && lies) (good_volume now c.head.passthru_volume)
-      (join (leb now (2 ^ 48)) lies (le-leb now (2 ^ 48) h.clock)
-      (join (ltb c.head.chosen 8) (is_over_by capacity (recording_in c.head)) (lt-ltb _ _ h.chosen)
+      joined (leb c.count 32 && good_head capacity c.head) (tabled && good_voices_of c)
+      (joined (leb c.count 32) (good_head capacity c.head) (le-leb _ _ h.voices)
+      (joined ((leb now (2 ^ 48) && lies) && good_volume now c.head.passthru_volume) (good_recorder c.head.recorder c.head.data_len capacity)
+      (joined (leb now (2 ^ 48) && lies) (good_volume now c.head.passthru_volume)
+      (joined (leb now (2 ^ 48)) lies (le-leb now (2 ^ 48) h.clock)
+      (joined (ltb c.head.chosen 8) (is_over_by capacity (recording_in c.head)) (lt-ltb _ _ h.chosen)
       (subst (λ (p : Phrase). is_over_by capacity p ≡ true) (phrase_chosen c) (inside_ends (phrase_at c c.head.chosen) capacity (h.within c.head.chosen h.chosen)))))
       (volume_from now c.head.passthru_volume (λ a b x y e. ramp a b (x, y, inl e))))
-      (join _ (leb c.head.data_len capacity) (writes_from c.head.recorder.state c.head.data_len h.write_place) (le-leb _ _ h.data_length))))
-      (join tabled (good_voices_of c) (table_good c.head c.several c.table capacity all) (place_every (good_voice now) (live c) (λ n v e. voice_from now v (judged v (n, e)))))
+      (joined _ (leb c.head.data_len capacity) (writes_from c.head.recorder.state c.head.data_len h.write_place) (le-leb _ _ h.data_length))))
+      (joined tabled (good_voices_of c) (table_good c.head c.several c.table capacity all) (place_every (good_voice now) (live c) (λ n v e. voice_from now v (judged v (n, e)))))
     where
       all : good_phrases capacity (phrases_in c) ≡ true
       all =
@@ -319,8 +317,8 @@ sizes_to count capacity h =
 sizes_from : (count capacity : ℕ) → GoodSizes count capacity → good_sizes count capacity ≡ true
 unfolding good_sizes
 sizes_from count capacity h =
-    join ((eqb count 1 || eqb count 2) && leb 1 capacity) (leb capacity (2 ^ 22))
-    (join (eqb count 1 || eqb count 2) (leb 1 capacity) (two_or_one count h.channels) (le-leb 1 capacity h.least))
+    joined ((eqb count 1 || eqb count 2) && leb 1 capacity) (leb capacity (2 ^ 22))
+    (joined (eqb count 1 || eqb count 2) (leb 1 capacity) (two_or_one count h.channels) (le-leb 1 capacity h.least))
     (le-leb capacity (2 ^ 22) h.most)
 
 -- ---- records
@@ -335,7 +333,7 @@ tables s t j k = front_holds (λ (c : Channel). length c.table ≡ 8) blank (new
 pub record_to : (s : Sampler) → Tabled s → good_sampler s ≡ true → GoodRecord s
 unfolding good_sampler
 record_to s t h =
-    let g = both (good_sizes s.count s.capacity) (every (good_channel s.capacity) (present s)) h in
+    let g = both (good_sizes s.count s.capacity) (list_all (good_channel s.capacity) (present s)) h in
     record {
       sizes = sizes_to s.count s.capacity g.0;
       channels = λ j k. channel_to s.capacity (channel_at s j) (tables s t j k)
@@ -345,7 +343,7 @@ record_to s t h =
 record_from : (s : Sampler) → Tabled s → GoodRecord s → good_sampler s ≡ true
 unfolding good_sampler
 record_from s t h =
-    join (good_sizes s.count s.capacity) (every (good_channel s.capacity) (present s)) (sizes_from s.count s.capacity h.sizes)
+    joined (good_sizes s.count s.capacity) (list_all (good_channel s.capacity) (present s)) (sizes_from s.count s.capacity h.sizes)
     (each_front (good_channel s.capacity) _ s.channels s.count (λ j k. channel_from s.capacity (channel_at s j) (tables s t j k) (h.channels j k)))
 
 memory : (s : Sampler) (size : ℕ) → Tabled s → (good_with s size ≡ true) ↔ (GoodRecord s × (s.count * s.capacity ≤ size))
@@ -358,7 +356,7 @@ memory s size t = (to, from)
         (record_to s t g.0, leb-true _ _ g.1)
 
     from : GoodRecord s × (s.count * s.capacity ≤ size) → good_with s size ≡ true
-    from (g, k) = join (good_sampler s) (leb (s.count * s.capacity) size) (record_from s t g) (le-leb _ _ k)
+    from (g, k) = joined (good_sampler s) (leb (s.count * s.capacity) size) (record_from s t g) (le-leb _ _ k)
 
 -- ---- set_up
 capacity : (count size n : ℕ) → 0 < count → (n ≤ capacity_of count size) ↔ ((n * count ≤ size) × (n ≤ 2 ^ 22))
@@ -376,18 +374,18 @@ unfolding capacity_of
 at_most count size = omega arith
 
 set_up : (count size : ℕ) → (set_up_number count size ≡ 0) ↔ (((count ≡ 1) ⊎ (count ≡ 2)) × (capacity_of count size ≢ 0))
-unfolding set_up_number
+unfolding set_up_judged
 set_up count size = (to, from)
   where
     good : Bool
     good = good_sizes count (capacity_of count size)
 
-    to : row (not good) 9 0 ≡ 0 → ((count ≡ 1) ⊎ (count ≡ 2)) × (capacity_of count size ≢ 0)
+    to : code_of (row (not good) Broken (Ok (tt {0}))) ≡ 0 → ((count ≡ 1) ⊎ (count ≡ 2)) × (capacity_of count size ≢ 0)
     to h =
-        let g = sizes_to count (capacity_of count size) (is_true good (passed (not good) 8 0 h).0) in
+        let g = sizes_to count (capacity_of count size) (is_true good (passed (not good) Broken (Ok tt) h).0) in
         (g.channels, λ e. let l = g.least in omega arith)
 
-    from : ((count ≡ 1) ⊎ (count ≡ 2)) × (capacity_of count size ≢ 0) → row (not good) 9 0 ≡ 0
+    from : ((count ≡ 1) ⊎ (count ≡ 2)) × (capacity_of count size ≢ 0) → code_of (row (not good) Broken (Ok (tt {0}))) ≡ 0
     from (k, l) = rw (sizes_from count (capacity_of count size) (record { channels = k; least = omega arith; most = at_most count size }))
 
 positive : (n : ℕ) → (n ≡ 1) ⊎ (n ≡ 2) → 0 < n

@@ -1,16 +1,18 @@
 -- Demand 3 holds of every record and memory that set-up and calls leave, for each channel. Assumes nothing.
 use mathlib.Core.Path.{◌≡◌, refl, sym, ap, ◌∙◌, subst}
-use mathlib.Core.Bool.{Bool, true, false, not, ◌&&◌, cond}
+use mathlib.Core.Bool.{Bool, true, false, not, cond, and-false}
 use mathlib.Core.Logic.{◌⊎◌, inl, inr}
 use mathlib.Core.List.{List, [], ◌∷◌, ◌++◌}
 use mathlib.Core.Option.{some}
 use Prim.Native.Nat.{ℕ, ◌+◌, ◌≤◌, ◌<◌, max}
 use native.Mathlib.Omega.{arith}
-use borrow.Author.Tests.{lt-leb, eq-eqb}
+use borrow.Author.Tests.{lt-leb}
 use lib.Dec.{eqb, ltb}
 use lib.ListN.{length}
 use lib.Ieee.{Float, binary32, mul}
-use Rattle.walks.specs.Walks.{any}
+use Rattle.std.specs.List.{list_any}
+use Rattle.std.specs.Prelude.{is_ok}
+use Rattle.refusals.proofs.Codes.{done_at}
 use Rattle.common_types.specs.declared.InitParams.{InitParams}
 use Rattle.common_types.specs.declared.Params.{Params}
 use Rattle.common_types.specs.declared.Note.{Note}
@@ -25,7 +27,7 @@ use Rattle.fates.specs.Engine.{born_of, step_of}
 use Rattle.fates.specs.Events.{Event, idle, sounds, act, acts, is_reset, is_sample, empty_at, decay_of, last_of, before_last}
 use Rattle.fates.specs.Places.{Housed, voice_at, Place, at, gone, follow, becomes, added_by, onward, follow_all, stopped_in, finishes}
 use Rattle.fates.specs.Sounding.{Sounds, First}
-use Rattle.promises.specs.Runs.{World, set_up, Call, change, start, sample, frame, read_wave, gather, asks, code, after, run, chan, done_to, event, events, is_reset_call, output, final, before}
+use Rattle.promises.specs.Runs.{World, set_up, Call, change, start, sample, frame, read_wave, gather, asks, call_judged, code, after, run, chan, done_to, event, events, is_reset_call, output, final, before}
 use Rattle.promises.specs.Demands.{is_empty, Leaves, SoundsIn, FirstIn, Demand3}
 use Rattle.walks.proofs.Tests.{neither, either}
 use Rattle.fates.proofs.Tracks.{gone_never, tracks}
@@ -39,10 +41,6 @@ use Rattle.promises.proofs.Engine.{step_same}
 use Rattle.promises.proofs.Calls.{Standing, chan_after, chan_run, kept, kept_run, count_kept, standing_after, standing_run, standing_new}
 use Rattle.promises.proofs.Accepted.{heard, start_room}
 
-and-false : (b : Bool) → (b && false) ≡ false
-and-false true = refl
-and-false false = refl
-
 -- ---- a call that is no reset is none on any channel
 quiet : (b : Bool) (e : Event) → is_reset e ≡ false → is_reset (cond b e idle) ≡ false
 unfolding is_reset
@@ -50,18 +48,18 @@ quiet b e h = either is_reset b e idle false h refl
 
 event_reset : (w : World) (c : Call) (j : ℕ) → is_reset_call c ≡ false → is_reset (event w c j) ≡ false
 unfolding event done_to is_reset is_reset_call
-event_reset w (change d) j h = quiet (eqb (code w (change d)) 0) _ h
-event_reset w (sample i x p) j h = quiet (eqb (code w (sample i x p)) 0) _ (quiet (eqb i j) _ refl)
-event_reset w (frame xs p) j h = quiet (eqb (code w (frame xs p)) 0) _ (quiet (ltb j (length xs)) _ refl)
-event_reset w (read_wave f) j h = quiet (eqb (code w (read_wave f)) 0) _ refl
-event_reset w gather j h = quiet (eqb (code w gather) 0) _ refl
-event_reset w (asks q) j h = quiet (eqb (code w (asks q)) 0) idle refl
+event_reset w (change d) j h = quiet (is_ok (call_judged w (change d))) _ h
+event_reset w (sample i x p) j h = quiet (is_ok (call_judged w (sample i x p))) _ (quiet (eqb i j) _ refl)
+event_reset w (frame xs p) j h = quiet (is_ok (call_judged w (frame xs p))) _ (quiet (ltb j (length xs)) _ refl)
+event_reset w (read_wave f) j h = quiet (is_ok (call_judged w (read_wave f))) _ refl
+event_reset w gather j h = quiet (is_ok (call_judged w gather)) _ refl
+event_reset w (asks q) j h = quiet (is_ok (call_judged w (asks q))) idle refl
 
-pub events_reset : (w : World) (cs : List Call) (j : ℕ) → any is_reset_call cs ≡ false → any is_reset (events w cs j) ≡ false
-unfolding events any
+pub events_reset : (w : World) (cs : List Call) (j : ℕ) → list_any is_reset_call cs ≡ false → list_any is_reset (events w cs j) ≡ false
+unfolding events
 events_reset w [] j h = refl
 events_reset w (c ∷ cs) j h =
-    let a = neither (is_reset_call c) (any is_reset_call cs) h in
+    let a = neither (is_reset_call c) (list_any is_reset_call cs) h in
     rw (event_reset w c j a.0) (events_reset (after w c) cs j a.1)
 
 -- ---- what is heard
@@ -97,7 +95,7 @@ module _ (w : World) (st : Standing w) (j : ℕ) (k : j < w.sampler.count) where
 
     begun : event w (start position note velocity p₀) j ≡ b
     unfolding event done_to b
-    begun = rw (eq-eqb _ 0 ok)
+    begun = rw (done_at (call_judged w (start position note velocity p₀)) ok)
 
     made : chan (after w (start position note velocity p₀)) j ≡ act b (chan w j)
     made = next (start position note velocity p₀) ∙ ap (λ (e : Event). act e (chan w j)) begun
@@ -106,7 +104,7 @@ module _ (w : World) (st : Standing w) (j : ℕ) (k : j < w.sampler.count) where
     unfolding b
     takes = ap live made ∙ taken p₀ position note velocity (chan w j) house some_data room
 
-    module _ (cs : List Call) (r : any is_reset_call cs ≡ false) where
+    module _ (cs : List Call) (r : list_any is_reset_call cs ≡ false) where
       es : List Event
       es = events (after w (start position note velocity p₀)) cs j
 
@@ -119,7 +117,7 @@ module _ (w : World) (st : Standing w) (j : ℕ) (k : j < w.sampler.count) where
       first : (p : Params) (x : Float) (m : List ℕ) → (chan w j).head.now < last_time → (acts (b ∷ es) (chan w j)).head.now ≡ (chan w j).head.now
           → stopped_in es (act b (chan w j)) (length (live (chan w j))) ≡ false → empty_at m (acts (b ∷ es) (chan w j)) (born_of p₀ position note velocity (chan w j)) ≡ false
           → First p x m (acts (b ∷ es) (chan w j)) (length (live (chan w j))) (born_of p₀ position note velocity (chan w j))
-      unfolding b any is_reset is_sample es
+      unfolding b is_reset is_sample es
       first p x m early same free full =
           let q = no_sample (b ∷ es) (chan w j) (events_reset (after w (start position note velocity p₀)) cs j r) early same in
           on_time p₀ position note velocity (chan w j) house some_data room es (events_reset (after w (start position note velocity p₀)) cs j r) q free p x m full

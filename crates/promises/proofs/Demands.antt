@@ -1,20 +1,25 @@
 -- The demands hold. Assumes nothing.
 use mathlib.Core.Path.{◌≡◌, refl, sym, ap, ◌∙◌}
-use mathlib.Core.Bool.{Bool, true, false, not, cond}
+use mathlib.Core.Bool.{Bool, not, cond, true, false}
 use mathlib.Core.Logic.{◌⊎◌, inl, inr, ◌≢◌}
 use mathlib.Core.List.{List, [], ◌++◌}
-use Prim.Native.Nat.{ℕ}
-use borrow.Author.Tests.{eqb-true}
-use lib.Dec.{eqb}
-use lib.ListN.{length, drop}
+use Prim.Native.Nat.{ℕ, ◌%◌, ◌/◌}
+use lib.Dec.{eqb, ltb}
+use Rattle.std.specs.Prelude.{Result, Ok, Err, is_ok}
+use lib.ListN.{length, take, drop}
 use lib.Ieee.{Float, nan, inf, fin, is_nan, lt, binary32, units, odd, round, div, of_int}
+use Rattle.refusals.specs.declared.Refusal.{Refusal}
+use Rattle.refusals.specs.declared.Refusal.TheVariants.{NoChannel, BadNote, BadPosition, BeyondLimits, Full, ClockEnd, ShortList, Broken, BadRun, TooManyColumns}
+use Rattle.refusals.specs.Refusals.{code_of}
+use Rattle.refusals.proofs.Codes.{refused_at, passed}
+use Rattle.refusals.proofs.Numbers.{code_row}
 use Rattle.binary32.specs.Leaves.{as_float, min_of, max_of, root_of}
 use Rattle.binary32.proofs.Halves.{of_int_whole}
 use Rattle.binary32.proofs.Casts.{narrow}
 use Rattle.binary32.proofs.Floors.{floor_exact, floor_cast}
 use Rattle.binary32.proofs.Patterns.{value_back, pattern_back}
 use Rattle.binary32.proofs.Roots.{nearest}
-use Rattle.walks.specs.Walks.{fold}
+use Rattle.std.specs.List.{list_any}
 use Rattle.common_types.proofs.Packing.{unpack_pack, pack_unpack}
 use Rattle.common_types.specs.declared.InitParams.{InitParams}
 use Rattle.common_types.specs.declared.Params.{Params}
@@ -22,33 +27,33 @@ use Rattle.common_types.specs.declared.time_value.TimeValue.TheVariants.{Bars}
 use Rattle.common_types.specs.declared.time_value.TimeOrRatio.{TimeOrRatio}
 use Rattle.common_types.specs.declared.time_value.TimeOrRatio.TheVariants.{WholeBars}
 use Rattle.common_types.specs.Times.{as_samples_of}
-use Rattle.common_types.specs.Settings.{length_of, loop_length_of}
-use Rattle.recorder.specs.ErrorText.{error_text}
+use Rattle.common_types.specs.Settings.{length_of, loop_length_of, beyond_limits}
 use Rattle.clip.proofs.AtOnce.{at_once, skips_length, skips_speed, skips_data_length, skips_mode}
 use Rattle.clip.proofs.Indices.{adds_up}
 use Rattle.voice.proofs.Values.{value_off, value_whole}
 use Rattle.clip.proofs.Offsets.{clip_offset_inside, offset_within}
 use Rattle.channel.specs.declared.Change.{Change}
 use Rattle.channel.specs.Tables.{asks_of}
-use Rattle.channel.specs.Channels.{live, recording_of}
+use Rattle.channel.specs.Channels.{recording_of}
 use Rattle.sampler.specs.declared.Sampler.{Sampler}
 use Rattle.sampler.specs.declared.Answer.{Answer}
 use Rattle.sampler.specs.declared.Ran.{Ran}
-use Rattle.sampler.specs.Refusals.{channel_at, good_sizes, good_sampler, capacity_of, good_with, no_channel, row, set_up_number, start_rows, stop_rows, speed_rows, sample_number, frame_number, run_number, gather_number, channel_number}
+use Rattle.sampler.specs.Refusals.{channel_at, good_sizes, good_sampler, capacity_of, good_with, no_channel, set_up_judged, set_up_number, start_rows, stop_rows, speed_rows, sample_judged, sample_number, frame_judged, run_judged, run_number, gather_judged, channel_judged, bad_note, bad_position, any_full, at_end, frames_left}
 use Rattle.sampler.specs.Samplers.{sampler_of, set_up_of, each_of, answer_of, process_sample_of, sample_memory, channel_stepped_of, memory_at, Framed, framed, entries_of, framed_of, run_answer}
 use Rattle.sampler.proofs.Against.{against_voice}
 use Rattle.sampler.proofs.Gathered.{gather_refused, gather_leaves}
-use Rattle.questions.specs.Questions.{recorder_at, notes_of, in_front, list_number, list_after, info_number, answered, no_infos, infos_with, get_voice_info_of}
+use Rattle.questions.specs.Questions.{in_front, list_counted, list_after, get_voice_info_of, iter_active_notes_of, print_error_info_of}
+use Rattle.questions.specs.declared.VoiceInfo.{VoiceInfo}
 use Rattle.questions.specs.declared.VoiceInfos.{VoiceInfos}
-use Rattle.questions.specs.Waveforms.{column_of, columns_from, smallest_of, largest_of, summary_with, waveform_number, waveform_of, get_waveform_summary_of, waveform_after}
+use Rattle.questions.specs.Waveforms.{column_of, columns_from, smallest_of, largest_of, summary_with, waveform_judged, waveform_number, waveform_of, get_waveform_summary_of, waveform_after}
 use Rattle.questions.proofs.Cuts.{cut_first, cut_inside, cuts_rise}
-use Rattle.questions.proofs.Summaries.{columns_count, smallest_zero, waveform_done}
+use Rattle.questions.proofs.Summaries.{columns_count, smallest_zero}
 use Rattle.questions.specs.Lists.{listed_of}
 use Rattle.channel.specs.declared.Change.TheVariants.{Start, Stop, Speed, Head, Reset}
 use Rattle.channel.specs.declared.HeadChange.TheVariants.{Load}
 use Rattle.wave.specs.Reader.{file_judged}
 use Rattle.wave.specs.Memory.{loaded_of}
-use Rattle.recordings.specs.Waves.{beginnings_in, write_number, wave_after, held_in, read_number, read_wave_of, read_memory}
+use Rattle.recordings.specs.Waves.{beginnings_in, write_judged, wave_after, held_in, read_judged, read_wave_of, read_memory}
 use Rattle.promises.specs.Runs.{
   World,
   set_up,
@@ -63,7 +68,7 @@ use Rattle.promises.specs.Runs.{
   fill_voice_info,
   get_waveform_summary,
   write_wave,
-  question_number,
+  question_judged,
   Call,
   change,
   speed,
@@ -75,6 +80,9 @@ use Rattle.promises.specs.Runs.{
   read_wave,
   gather,
   asks,
+  judgement_of,
+  call_judged,
+  row,
   code,
   after,
   chan,
@@ -83,7 +91,7 @@ use Rattle.promises.specs.Runs.{
 use Rattle.promises.specs.Outcomes.{on, Outcome, Allows, Untouched}
 use Rattle.promises.specs.Demands.{waveform, Demand1, Demand2, Demands}
 use Rattle.promises.proofs.Memory.{part_unwritten, part_written, parts_unwritten}
-use Rattle.promises.proofs.Outcomes.{settled, one_outcome, number_code, left_after, left_along, output_answered, chain_makes, makes_chain}
+use Rattle.promises.proofs.Outcomes.{settled, one_outcome, judgement_code, judged_code, left_after, left_along, output_answered, chain_makes, makes_chain}
 use Rattle.promises.proofs.Infos.{infos_given, infos_counted_lem, infos_listed}
 use Rattle.promises.proofs.Extremes.{smaller_of_both, larger_of_both}
 use Rattle.promises.proofs.Table.{table_holds}
@@ -103,71 +111,69 @@ use Rattle.promises.proofs.Tidying.{tidying}
 
 -- ---- a refusal
 
-refused : (n : ℕ) → n ≢ 0 → eqb n 0 ≡ false
-refused n h = go (eqb n 0) refl
-  where
-    go : (b : Bool) → eqb n 0 ≡ b → b ≡ false
-    go true e = absurd (h (eqb-true n 0 e))
-    go false e = refl
-
 -- the branch that a refused call takes
-other : {A : Type 0} (n : ℕ) (x y : A) → n ≢ 0 → cond (eqb n 0) x y ≡ y
-other n x y h = rw (refused n h)
+other : {A B : Type 0} (r : Result B Refusal) (x y : A) → code_of r ≢ 0 → cond (is_ok r) x y ≡ y
+other r x y h = rw (refused_at r h)
 
-answer_held : (w : World) (n : ℕ) (d : Change) → n ≢ 0 → record { sampler = (answer_of n d w.sampler).sampler; memory = w.memory } ≡ w
+answer_held : (w : World) (r : Result (Unit {0}) Refusal) (d : Change) → code_of r ≢ 0 → record { sampler = (answer_of r d w.sampler).sampler; memory = w.memory } ≡ w
 unfolding answer_of
-answer_held w n d h = λ t. record { sampler = other n (each_of d w.sampler) w.sampler h t; memory = w.memory }
+answer_held w r d h = λ t. record { sampler = other r (each_of d w.sampler) w.sampler h t; memory = w.memory }
 
 sample_held : (w : World) (j : ℕ) (x y : Float) (p : Params) → sample_number w.sampler j p (length w.memory) ≢ 0
     → record { sampler = (process_sample_of w.sampler j x p w.memory).sampler; memory = sample_memory w.sampler j y p w.memory } ≡ w
 unfolding process_sample_of sample_memory
 sample_held w j x y p h =
-    let n = sample_number w.sampler j p (length w.memory) in
-    λ t. record { sampler = other n (channel_stepped_of w.sampler j p x w.memory) w.sampler h t; memory = other n (memory_at w.sampler j y w.memory) w.memory h t }
+    let r = sample_judged w.sampler j p (length w.memory) in
+    λ t. record { sampler = other r (channel_stepped_of w.sampler j p x w.memory) w.sampler h t; memory = other r (memory_at w.sampler j y w.memory) w.memory h t }
 
 after_held : (w : World) (c : Call) → code w c ≢ 0 → after w c ≡ w
-unfolding after code framed_of read_wave_of read_memory answer_of
+unfolding after call_judged framed_of read_wave_of read_memory answer_of
 after_held w (change d) h = answer_held w _ _ h
 after_held w (sample j x p) h = sample_held w j x _ p h
 after_held w (frame xs p) h =
     let f = framed w.sampler xs w.memory in
-    let e = other (frame_number w.sampler (length xs) p (length w.memory)) (entries_of p (length xs) 0 f) f h in
+    let e = other (frame_judged w.sampler (length xs) p (length w.memory)) (entries_of p (length xs) 0 f) f h in
     λ t. record { sampler = (e t).sampler; memory = (e t).memory }
 after_held w (read_wave f) h =
-    let n = read_number w.sampler (file_judged f) (length w.memory) in
-    λ t. record { sampler = other n (each_of (Head (Load (held_in (file_judged f)).samples)) w.sampler) w.sampler h t; memory = other n (loaded_of f (beginnings_in w.sampler) w.memory) w.memory h t }
+    let r = read_judged w.sampler (file_judged f) (length w.memory) in
+    λ t. record { sampler = other r (each_of (Head (Load (held_in (file_judged f)).samples)) w.sampler) w.sampler h t; memory = other r (loaded_of f (beginnings_in w.sampler) w.memory) w.memory h t }
 after_held w gather h = λ t. record { sampler = gather_refused w.sampler w.memory h t; memory = gather_leaves w.sampler w.memory h t }
 after_held w (asks q) h = refl
 
+-- a list that a refused question leaves
+list_held : (s : Sampler) (j : ℕ) (answer lent : List ℕ) → code_of (judgement_of (list_counted s j answer (length lent))) ≢ 0 → list_after s j answer lent ≡ lent
+unfolding list_after
+list_held s j answer lent h = other (list_counted s j answer (length lent)) (in_front answer lent) lent (λ z. h (judgement_code _ ∙ z))
+
+infos_held : (r : Result VoiceInfos Refusal) (list : List VoiceInfo) → code_of (judgement_of r) ≢ 0 → listed_of r list ≡ list
+unfolding listed_of
+infos_held (Ok v) list h = absurd (h refl)
+infos_held (Err e) list h = refl
+
 untouched : (w : World) (c : Call) (r : Outcome (on w c)) → Allows (on w c) r → code w c ≢ 0 → Untouched w c r
-unfolding Untouched code question_number framed_of list_after get_voice_info_of answered listed_of waveform_after wave_after
+unfolding Untouched call_judged question_judged framed_of waveform_after wave_after
 untouched w (change d) r h n = tt
 untouched w (sample j x p) r h n = tt
 untouched w (frame xs p) r h n =
     let f = framed w.sampler xs w.memory in
-    h.1.frame ∙ ap (λ (g : Framed). g.frame) (other (frame_number w.sampler (length xs) p (length w.memory)) (entries_of p (length xs) 0 f) f n)
+    h.1.frame ∙ ap (λ (g : Framed). g.frame) (other (frame_judged w.sampler (length xs) p (length w.memory)) (entries_of p (length xs) 0 f) f n)
 untouched w (read_wave f) r h n = tt
 untouched w gather r h n = tt
 untouched w (asks (get_frames_processed j)) r h n = tt
 untouched w (asks (get_data_len j)) r h n = tt
 untouched w (asks (is_recording j)) r h n = tt
 untouched w (asks (get_last_recorded_offset j)) r h n = tt
-untouched w (asks (print_error_info j text)) r h n =
-    let answer = error_text (recorder_at w.sampler j) in
-    h.1 ∙ other (list_number w.sampler j answer (length text)) (in_front answer text) text n
-untouched w (asks (iter_active_notes j notes)) r h n =
-    let answer = notes_of (live (channel_at w.sampler j)) in
-    h.1 ∙ other (list_number w.sampler j answer (length notes)) (in_front answer notes) notes n
+untouched w (asks (print_error_info j text)) r h n = h.1 ∙ list_held w.sampler j _ text n
+untouched w (asks (iter_active_notes j notes)) r h n = h.1 ∙ list_held w.sampler j _ notes n
 untouched w (asks (get_voice_info j p room)) r h n = tt
-untouched w (asks (fill_voice_info j p list)) r h n =
-    h.1 ∙ ap (λ (v : VoiceInfos). listed_of v list) (other (info_number w.sampler j p (length list)) _ (infos_with no_infos 0 (info_number w.sampler j p (length list))) n)
+untouched w (asks (fill_voice_info j p list)) r h n = h.1 ∙ infos_held (get_voice_info_of w.sampler j p (length list)) list n
 untouched w (asks (get_waveform_summary columns list)) r h n =
-    h.1 ∙ other (waveform_number w.sampler columns (length list) (length w.memory)) (in_front (waveform_of w.sampler columns w.memory) list) list n
-untouched w (asks (write_wave rate out)) r h n = h.1 ∙ other (write_number w.sampler (length out) (length w.memory)) _ out n
+    h.1 ∙ other (waveform_judged w.sampler columns (length list) (length w.memory)) (in_front (waveform_of w.sampler columns w.memory) list) list n
+untouched w (asks (write_wave rate out)) r h n = h.1 ∙ other (write_judged w.sampler (length out) (length w.memory)) _ out n
 
 -- ---- a refused set-up
 empty_record : (p : InitParams) (m : List ℕ) (c : Call) → code (record { sampler = sampler_of 0 p 0; memory = m }) c ≡ 9
-unfolding code question_number start_rows stop_rows speed_rows sample_number frame_number channel_number list_number info_number waveform_number write_number read_number gather_number good_with good_sampler good_sizes
+unfolding call_judged question_judged start_rows stop_rows speed_rows sample_judged frame_judged channel_judged list_counted get_voice_info_of waveform_judged write_judged read_judged gather_judged good_with good_sampler good_sizes
 empty_record p m (change (Start q position note velocity)) = refl
 empty_record p m (change (Stop q note)) = refl
 empty_record p m (change (Speed note s)) = refl
@@ -191,40 +197,51 @@ empty_record p m (asks (write_wave rate out)) = refl
 unmade : (count : ℕ) (p : InitParams) (m : List ℕ) → set_up_number count (length m) ≢ 0 → (c : Call) → code (set_up count p m) c ≡ 9
 unfolding set_up set_up_of
 unmade count p m h c =
-    ap (λ (s : Sampler). code (record { sampler = s; memory = m }) c) (other (set_up_number count (length m)) (sampler_of count p (capacity_of count (length m))) (sampler_of 0 p 0) h)
+    ap (λ (s : Sampler). code (record { sampler = s; memory = m }) c) (other (set_up_judged count (length m)) (sampler_of count p (capacity_of count (length m))) (sampler_of 0 p 0) h)
     ∙ empty_record p m c
 
 unmade_run : (count : ℕ) (p : InitParams) (m : List ℕ) → set_up_number count (length m) ≢ 0 → (xs : List Float) (q : Params) → run_number (set_up count p m).sampler (length xs) q (length m) ≡ 9
-unfolding set_up set_up_of run_number good_with good_sampler good_sizes
+unfolding set_up set_up_of run_judged good_with good_sampler good_sizes
 unmade_run count p m h xs q =
-    ap (λ (s : Sampler). run_number s (length xs) q (length m)) (other (set_up_number count (length m)) (sampler_of count p (capacity_of count (length m))) (sampler_of 0 p 0) h)
+    ap (λ (s : Sampler). run_number s (length xs) q (length m)) (other (set_up_judged count (length m)) (sampler_of count p (capacity_of count (length m))) (sampler_of 0 p 0) h)
 
 -- ---- rows
+channel_rows : (s : Sampler) (j : ℕ) → code_of (channel_judged s j) ≡ row (not (good_sampler s)) 9 (row (no_channel s j) 1 0)
+unfolding channel_judged
+channel_rows s j = code_row (not (good_sampler s)) Broken _ _ (code_row (no_channel s j) NoChannel _ _ refl)
+
+list_rows : (s : Sampler) (j : ℕ) (answer : List ℕ) (room : ℕ) → code_of (list_counted s j answer room) ≡ row (not (good_sampler s)) 9 (row (no_channel s j) 1 (row (ltb room (length answer)) 8 0))
+unfolding list_counted
+list_rows s j answer room = code_row (not (good_sampler s)) Broken _ _ (code_row (no_channel s j) NoChannel _ _ (code_row (ltb room (length answer)) ShortList _ _ refl))
+
 query_rows : (w : World) (j : ℕ) (q : Question) → (q ≡ get_frames_processed j) ⊎ ((q ≡ get_data_len j) ⊎ ((q ≡ is_recording j) ⊎ (q ≡ get_last_recorded_offset j)))
     → code w (asks q) ≡ row (not (good_sampler w.sampler)) 9 (row (no_channel w.sampler j) 1 0)
-unfolding code question_number channel_number
-query_rows w j q (inl e) = ap (λ (q : Question). code w (asks q)) e
-query_rows w j q (inr (inl e)) = ap (λ (q : Question). code w (asks q)) e
-query_rows w j q (inr (inr (inl e))) = ap (λ (q : Question). code w (asks q)) e
-query_rows w j q (inr (inr (inr e))) = ap (λ (q : Question). code w (asks q)) e
+unfolding call_judged question_judged
+query_rows w j q (inl e) = ap (λ (q : Question). code w (asks q)) e ∙ channel_rows w.sampler j
+query_rows w j q (inr (inl e)) = ap (λ (q : Question). code w (asks q)) e ∙ channel_rows w.sampler j
+query_rows w j q (inr (inr (inl e))) = ap (λ (q : Question). code w (asks q)) e ∙ channel_rows w.sampler j
+query_rows w j q (inr (inr (inr e))) = ap (λ (q : Question). code w (asks q)) e ∙ channel_rows w.sampler j
 
 plain_rows : (w : World) (c : Call) → (c ≡ start_recording) ⊎ ((c ≡ stop_recording) ⊎ (c ≡ reset)) → code w c ≡ row (not (good_sampler w.sampler)) 9 0
-unfolding code
-plain_rows w c (inl e) = ap (code w) e
-plain_rows w c (inr (inl e)) = ap (code w) e
-plain_rows w c (inr (inr e)) = ap (code w) e
+unfolding call_judged
+plain_rows w c (inl e) = ap (code w) e ∙ code_row (not (good_sampler w.sampler)) Broken _ _ refl
+plain_rows w c (inr (inl e)) = ap (code w) e ∙ code_row (not (good_sampler w.sampler)) Broken _ _ refl
+plain_rows w c (inr (inr e)) = ap (code w) e ∙ code_row (not (good_sampler w.sampler)) Broken _ _ refl
 
 -- what an accepted summary answers
 summary_given : (w : World) (columns : ℕ) (list : List Float) → waveform_number w.sampler columns (length list) (length w.memory) ≡ 0
-    → (get_waveform_summary_of w.sampler columns (length list) w.memory ≡ summary_with (smallest_of (waveform w columns)) (largest_of (waveform w columns)) 0)
+    → (get_waveform_summary_of w.sampler columns (length list) w.memory ≡ Ok (summary_with (smallest_of (waveform w columns)) (largest_of (waveform w columns))))
     × (waveform_after w.sampler columns list w.memory ≡ waveform w columns ++ drop columns list)
+unfolding waveform_judged get_waveform_summary_of waveform_after
 summary_given w columns list n =
-    let done = waveform_done w.sampler columns list w.memory n in
+    let a = passed (not (good_with w.sampler (length w.memory))) Broken _ n in
+    let b = passed (ltb 4096 columns) TooManyColumns _ a.1 in
+    let c = passed (ltb (length list) columns) ShortList (Ok tt) b.1 in
     let count = columns_count columns (recording_of (chan w 0) (own_part w 0)) columns 0 in
-    (sym done.0, sym done.1 ∙ ap (λ (k : ℕ). waveform w columns ++ drop k list) count)
+    (rw (a.0, b.0, c.0) refl, rw (a.0, b.0, c.0) (ap (λ (k : ℕ). waveform w columns ++ drop k list) count))
 
 demand1 : Demand1
-unfolding set_up_of set_up_number code question_number start_rows stop_rows speed_rows sample_number frame_number info_number list_number waveform_number run_number run_answer asks_of
+unfolding set_up_of set_up_judged call_judged question_judged start_rows stop_rows speed_rows sample_judged frame_judged get_voice_info_of list_counted waveform_judged run_judged run_answer asks_of
 demand1 = record {
   takes = settled;
   one = one_outcome;
@@ -232,28 +249,36 @@ demand1 = record {
   written = λ w c r h j p x m e. ap (λ (v : World). own_part v j) (left_after w c r h) ∙ part_written w j c p x m e;
   unwritten_run = parts_unwritten;
   run_sized = λ w f xs p g r h. ap (λ (v : World). length v.memory) (left_along w xs p r h ∙ (in_turn w f xs p g).leaves) ∙ memory_run w _;
-  filled = λ w j p list r h n q. (h.0 ∙ infos_counted_lem w j p (length list) n q, h.1 ∙ infos_listed w j p (length list) n q list);
-  informed = λ w j p room r h n q. infos_given w j p room n q r h;
+  filled = λ w j p list r h n q.
+      let z = sym (judgement_code (get_voice_info_of w.sampler j p (length list))) ∙ n in
+      (h.0 ∙ infos_counted_lem w j p (length list) z q, h.1 ∙ infos_listed w j p (length list) z q list);
+  informed = λ w j p room r h n q. infos_given w j p room (sym (judgement_code (get_voice_info_of w.sampler j p room)) ∙ n) q r h;
   summarized = λ w columns list r h n. (h.0 ∙ (summary_given w columns list n).0, h.1 ∙ (summary_given w columns list n).1);
   unmade = unmade;
   unmade_run = unmade_run;
   sized = λ w c r h. ap (λ (v : World). length v.memory) (left_after w c r h) ∙ memory_after w c;
-  numbered = number_code;
-  start_rows_lem = λ w position note velocity p. rw (against_voice w.sampler) refl;
-  stop_rows_lem = λ w note p. refl;
-  speed_rows_lem = λ w note s. refl;
-  sample_rows = λ w j x p. refl;
-  frame_rows = λ w xs p. refl;
-  run_rows = λ w xs p r h. ap (λ (a : Ran). a.number) h.0;
-  info_rows = λ w j p room. refl;
+  named = judged_code;
+  numbered = λ w c r h. ap code_of (judged_code w c r h);
+  start_rows_lem = λ w position note velocity p.
+      rw (against_voice w.sampler)
+      (code_row (not (good_sampler w.sampler)) Broken _ _ (code_row (bad_note note) BadNote _ _ (code_row (bad_position position) BadPosition _ _ (code_row (beyond_limits p) BeyondLimits _ _ (code_row (any_full w.sampler) Full _ _ refl)))));
+  stop_rows_lem = λ w note p. code_row (not (good_sampler w.sampler)) Broken _ _ (code_row (bad_note note) BadNote _ _ (code_row (beyond_limits p) BeyondLimits _ _ refl));
+  speed_rows_lem = λ w note s. code_row (not (good_sampler w.sampler)) Broken _ _ (code_row (bad_note note) BadNote _ _ refl);
+  sample_rows = λ w j x p. code_row (not (good_with w.sampler (length w.memory))) Broken _ _ (code_row (no_channel w.sampler j) NoChannel _ _ (code_row (beyond_limits p) BeyondLimits _ _ (code_row (at_end (channel_at w.sampler j)) ClockEnd _ _ refl)));
+  frame_rows = λ w xs p.
+      code_row (not (good_with w.sampler (length w.memory))) Broken _ _ (code_row (ltb w.sampler.count (length xs)) NoChannel _ _ (code_row (beyond_limits p) BeyondLimits _ _ (code_row (list_any at_end (take (length xs) w.sampler.channels)) ClockEnd _ _ refl)));
+  run_rows = λ w xs p r h. ap (λ (a : Ran). code_of a.done) h.0
+      ∙ code_row (not (good_with w.sampler (length w.memory))) Broken _ _ (code_row (not (eqb (length xs % w.sampler.count) 0)) BadRun _ _ (code_row (beyond_limits p) BeyondLimits _ _ (code_row (ltb (frames_left w.sampler) (length xs / w.sampler.count)) ClockEnd _ _ refl)));
+  info_rows = λ w j p room. judgement_code (get_voice_info_of w.sampler j p room)
+      ∙ code_row (not (good_sampler w.sampler)) Broken _ _ (code_row (no_channel w.sampler j) NoChannel _ _ (code_row (beyond_limits p) BeyondLimits _ _ (code_row (ltb room (channel_at w.sampler j).count) ShortList _ _ refl)));
   fill_rows = λ w j p list. refl;
-  notes_rows = λ w j notes. refl;
-  text_rows = λ w j text. refl;
-  summary_rows = λ w columns list. refl;
+  notes_rows = λ w j notes. judgement_code (iter_active_notes_of w.sampler j (length notes)) ∙ list_rows w.sampler j _ (length notes);
+  text_rows = λ w j text. judgement_code (print_error_info_of w.sampler j (length text)) ∙ list_rows w.sampler j _ (length text);
+  summary_rows = λ w columns list. code_row (not (good_with w.sampler (length w.memory))) Broken _ _ (code_row (ltb 4096 columns) TooManyColumns _ _ (code_row (ltb (length list) columns) ShortList _ _ refl));
   query_rows = query_rows;
   plain_rows = plain_rows;
-  interpolation_rows = λ w on. refl;
-  set_up_rows = λ count p m r h. ap (λ (a : Answer). a.number) h;
+  interpolation_rows = λ w on. code_row (not (good_sampler w.sampler)) Broken _ _ refl;
+  set_up_rows = λ count p m r h. ap (λ (a : Answer). code_of a.done) h ∙ code_row (not (good_sizes count (capacity_of count (length m)))) Broken _ _ refl;
   held = λ w c r h n. (left_after w c r h ∙ after_held w c n, untouched w c r h n);
   run_held = run_held;
   run_done = run_done;
@@ -279,11 +304,11 @@ unfolding loop_length_of length_of of_int
 whole_bars p n x e = ap (λ (l : TimeOrRatio). max_of (length_of l p.transport n) (as_float 1)) e
 
 column_of_none : column_of [] ≡ nan
-unfolding column_of fold of_int round units odd div root_of
+unfolding column_of of_int round units odd div root_of
 column_of_none = refl
 
 demand2 : Demand2
-unfolding columns_from fold
+unfolding columns_from
 demand2 = record {
   exact = of_int_whole binary32;
   narrow = narrow;

@@ -34,11 +34,11 @@ lets_same off.Decay t u = refl
 lets_same off.ZeroCrossing t u = refl
 lets_same off.DecayAndZeroCrossing t u = refl
 
-leaves_same : (t : Tick) (u : Voice) → leaves_of t u ≡ should_remove_of t u
+pub leaves_same : (t : Tick) (u : Voice) → leaves_of t u ≡ should_remove_of t u
 unfolding leaves_of should_remove_of
 leaves_same t u = rw (lets_same t.note_off_behavior t u)
 
-turns_same : (t : Tick) (m : List ℕ) → turns_by t m ≡ turning_by t m
+pub turns_same : (t : Tick) (m : List ℕ) → turns_by t m ≡ turning_by t m
 unfolding turns_by turning_by voice_turned turn_of passes_over
 turns_same t m = λ i. record { turn = turn_of t m; leaves = λ (u : Voice). leaves_same t u i; adds = λ (out : Float) (v : Voice). added_of (should_remove_of t v) out (product_of t m v) }
 

@@ -9,6 +9,9 @@ use native.Mathlib.Omega.{arith}
 use lib.IntN.{pos, negsuc}
 use lib.Dec.{lit<, lit≤}
 use lib.ListN.{length, get_or, replicate}
+use Rattle.std.specs.Prelude.{Result, Ok, Err}
+use Rattle.refusals.specs.declared.Refusal.{Refusal}
+use Rattle.refusals.specs.declared.Refusal.TheVariants.{BeyondLimits, ClockEnd, Broken, BadRun}
 use Rattle.common_types.specs.declared.InitParams.{InitParams}
 use Rattle.common_types.specs.declared.Params.{Params}
 use Rattle.common_types.specs.declared.Note.{Note}
@@ -20,7 +23,8 @@ use Rattle.common_types.specs.declared.time_value.TimeOrRatio.TheVariants.{Ratio
 use Rattle.common_types.specs.Settings.{default_transport}
 use Rattle.binary32.specs.Leaves.{floor_of, min_of, max_of, crossing_of, root_below, isqrt, root_of, zero32, one32}
 use Rattle.binary32.specs.Wholes.{is_whole_in}
-use Rattle.walks.specs.Walks.{any, every, without, behind, fold, seek}
+use Rattle.walks.proofs.Lists.Looks.{look_some}
+use Rattle.walks.specs.Walks.{without, behind}
 use Rattle.common_types.specs.Settings.{speed_of, time_length_of, length_of, loop_length_of, length_beyond, beyond_limits}
 use Rattle.volume.specs.Levels.{progress_of, level_of, toward_of, stepped_of, good_ramp, good_volume}
 use Rattle.recorder.specs.Recording.{raised, in_state, misused_of, skipped_of, start_of, stop_of, recorded_of, data_after, is_recording_of, good_recorder}
@@ -41,20 +45,19 @@ use Rattle.channel.specs.Soundness.{FittingChange}
 use Rattle.channel.specs.Heads.{phrase_by, begins_at, written_in, holds_of, phrase_after, recorder_after, interpolates_after, chosen_after, head_changed_of, next_time, head_of, ramp_of, passthru_of, closed_of, good_head}
 use Rattle.channel.specs.Tables.{good_table, table_after, several_after, head_names, found_by, head_asks, asks_of, leaving_of, blocked_by, short_by}
 use Rattle.channel.specs.Channels.{live, with_head, with_voices, channel_of, reset_of, uses_of, head_changed_in, gathered_in, gathered_memory, any_unfinished_of, handled_of, pushed_of, start_playing_of, wanted_of, find_of, finished_at_of, stop_playing_of, sped_of, set_note_speed_of, kept_of, tidied_of, added_of, heard_sum, played_of, turning_by, resting, turning_at, turning_of, turning_in, taken_of, memory_of, process_sample_of, changed_of, full_of, good_voices_of, good_channel, recording_of}
-use Rattle.sampler.specs.Refusals.{good_sizes, good_sampler, against_any, capacity_of, good_with, set_up_number, gather_number, start_rows, stop_rows, speed_rows, sample_number, frame_number, latest_of, frames_left, run_number, done_of, channel_number}
+use Rattle.sampler.specs.Refusals.{good_sizes, good_sampler, against_any, capacity_of, good_with, set_up_judged, gather_judged, start_rows, stop_rows, speed_rows, sample_judged, frame_judged, latest_of, frames_left, run_judged, done_of, channel_judged}
 use Rattle.sampler.specs.declared.Sampler.{Sampler}
 use Rattle.sampler.specs.declared.Ran.{Ran}
 use Rattle.questions.specs.declared.VoiceInfo.{VoiceInfo}
-use Rattle.questions.specs.declared.Counted.TheVariants as counted
-use Rattle.questions.specs.Questions.{notes_of, list_number, voice_info_of, info_number}
-use Rattle.questions.specs.Waveforms.{cut_of, column_of, column_at, columns_from, waveform_number}
+use Rattle.questions.specs.Questions.{notes_of, voice_info_of, list_counted, get_voice_info_of}
+use Rattle.questions.specs.Waveforms.{cut_of, column_of, column_at, columns_from, waveform_judged}
 use Rattle.sampler.specs.Samplers.{with_channels, set_up_of, each_of, answer_of, part_of, played_at, channel_stepped_of as sampled_of, output_of, moved_at, memory_at, process_sample_of as sample_of, sample_memory, gather_channel, gather_channels, gather_of, gather_memory, entry_of, entries_of, entries_moved, framed_of, frame_moved, frames_of, ran_of, run_answer}
 use Rattle.fates.specs.Engine.{begun_of, passes_over, voice_turned, lets_go, leaves_of, turns_by, moment_at, held_at, step_of}
 use Rattle.fates.specs.Events.{tick_at, act, is_reset, is_sample, decay_of}
 use Rattle.fates.specs.Sounding.{term_of, terms_of}
 use Rattle.fates.specs.Steady.{disagrees, alters, altered_in}
 use Rattle.fates.specs.Places.{voice_at, at, gone, fate_of, follow, stops, becomes, added_by, out_of, plays_out, follow_all, stopped_in, finished_in}
-use Rattle.promises.specs.Runs.{World, Call, start, stop, speed, start_recording, stop_recording, sample, frame, get_data_len, iter_active_notes, fill_voice_info, get_waveform_summary, asks, FittingCall, chan, own_part, set_up, question_number, code, after, run, done_to, event, events, is_reset_call, rewrites, output, before, one, makes}
+use Rattle.promises.specs.Runs.{World, Call, start, stop, speed, start_recording, stop_recording, sample, frame, get_data_len, iter_active_notes, fill_voice_info, get_waveform_summary, asks, FittingCall, chan, own_part, set_up, question_judged, call_judged, code, after, run, done_to, event, events, is_reset_call, rewrites, output, before, one, makes}
 use lib.Ieee.{Float, nan, fin, binary32, size, round, fits, add, sub, mul, div, rem, neg, lt, le, eq, of_int, to_unsigned, is_nan, of_bits, to_bits, nan_bits, of_fields}
 use Rattle.promises.specs.Outcomes.{on, left_by}
 use Rattle.promises.specs.Demands.{waveform, Plays, Asked, AllPlaced, Leaves, SoundsIn, FirstIn, terms_with, Demand3, Undisturbed, OnTheBeat, Shows, TruePositions}
@@ -63,10 +66,11 @@ use Rattle.promises.proofs.Whole.{no_panic, whole}
 use Rattle.promises.proofs.Demands.{demands}
 use Rattle.promises.proofs.Demand3.{demand3}
 use Rattle.promises.proofs.TruePositions.{true_positions}
+use Rattle.promises.proofs.Makes.{both_fit}
 
 -- whatever a run computes by
 unfoldable pub computing : Unit {0}
-unfolding floor_of min_of max_of crossing_of any every without behind fold seek speed_of time_length_of length_of loop_length_of length_beyond beyond_limits progress_of level_of toward_of stepped_of good_ramp good_volume raised in_state misused_of skipped_of start_of stop_of recorded_of data_after is_recording_of good_recorder lead_of travel_at looped_of round_trip_of mirrored_of bounced_of wrapped_of placed_of clip_offset_at clip_to_data_of offset_at index_at made_of back_of found_at reversing_at shift_for settled_of with_speed with_mode with_length with_data_length good_length good_clip span_of tick_of late_of over_of should_remove_of moved_of position_of one_further next_at between_of value_of product_of sounded_of finish_of played_out_of ended_of volume_stepped turn_of fresh_of blank_voice at_speed_of good_voice no_samples is_over_by reach_of apart_of stored_in room_of others_of every_below good_at good_phrases beside_with beside_of first_below moved_down gather_phrase gather_next gather_turns gathering_of phrase_by begins_at written_in holds_of phrase_after recorder_after interpolates_after chosen_after next_time head_of ramp_of passthru_of closed_of good_head good_table table_after several_after head_names found_by head_asks asks_of leaving_of blocked_by short_by channel_of reset_of uses_of head_changed_in gathered_in gathered_memory any_unfinished_of handled_of pushed_of start_playing_of wanted_of find_of finished_at_of stop_playing_of sped_of set_note_speed_of head_changed_of kept_of tidied_of added_of heard_sum played_of turning_by resting turning_at turning_of turning_in taken_of begun_of passes_over voice_turned lets_go leaves_of turns_by moment_at held_at step_of memory_of process_sample_of changed_of full_of good_voices_of good_channel good_sizes good_sampler against_any capacity_of good_with set_up_number gather_number start_rows stop_rows speed_rows sample_number frame_number channel_number notes_of list_number set_up_of each_of answer_of part_of played_at sampled_of output_of moved_at memory_at sample_of sample_memory gather_channel gather_channels gather_of gather_memory entry_of entries_of entries_moved framed_of frame_moved act is_reset is_sample decay_of fate_of follow stops becomes added_by out_of plays_out follow_all stopped_in finished_in agrees_of disagrees alters altered_in set_up question_number code after run done_to event events is_reset_call rewrites output before add sub mul div rem neg lt le eq of_int to_unsigned is_nan of_bits to_bits nan_bits of_fields latest_of frames_left run_number done_of frames_of ran_of run_answer
+unfolding floor_of min_of max_of crossing_of without behind speed_of time_length_of length_of loop_length_of length_beyond beyond_limits progress_of level_of toward_of stepped_of good_ramp good_volume raised in_state misused_of skipped_of start_of stop_of recorded_of data_after is_recording_of good_recorder lead_of travel_at looped_of round_trip_of mirrored_of bounced_of wrapped_of placed_of clip_offset_at clip_to_data_of offset_at index_at made_of back_of found_at reversing_at shift_for settled_of with_speed with_mode with_length with_data_length good_length good_clip span_of tick_of late_of over_of should_remove_of moved_of position_of one_further next_at between_of value_of product_of sounded_of finish_of played_out_of ended_of volume_stepped turn_of fresh_of blank_voice at_speed_of good_voice no_samples is_over_by reach_of apart_of stored_in room_of others_of every_below good_at good_phrases beside_with beside_of first_below moved_down gather_phrase gather_next gather_turns gathering_of phrase_by begins_at written_in holds_of phrase_after recorder_after interpolates_after chosen_after next_time head_of ramp_of passthru_of closed_of good_head good_table table_after several_after head_names found_by head_asks asks_of leaving_of blocked_by short_by channel_of reset_of uses_of head_changed_in gathered_in gathered_memory any_unfinished_of handled_of pushed_of start_playing_of wanted_of find_of finished_at_of stop_playing_of sped_of set_note_speed_of head_changed_of kept_of tidied_of added_of heard_sum played_of turning_by resting turning_at turning_of turning_in taken_of begun_of passes_over voice_turned lets_go leaves_of turns_by moment_at held_at step_of memory_of process_sample_of changed_of full_of good_voices_of good_channel good_sizes good_sampler against_any capacity_of good_with set_up_judged gather_judged start_rows stop_rows speed_rows sample_judged frame_judged channel_judged notes_of list_counted set_up_of each_of answer_of part_of played_at sampled_of output_of moved_at memory_at sample_of sample_memory gather_channel gather_channels gather_of gather_memory entry_of entries_of entries_moved framed_of frame_moved act is_reset is_sample decay_of fate_of follow stops becomes added_by out_of plays_out follow_all stopped_in finished_in agrees_of disagrees alters altered_in set_up question_judged call_judged after run done_to event events is_reset_call rewrites output before add sub mul div rem neg lt le eq of_int to_unsigned is_nan of_bits to_bits nan_bits of_fields latest_of frames_left run_judged done_of frames_of ran_of run_answer
 computing = tt
 
 -- ---- parameters, keys, calls
@@ -246,7 +250,7 @@ in_order_met = trio_promised.in_order (quiet plain) 1 2 0 1 (voice trio 1) (voic
 -- whoever stands at place 1 afterwards came from somewhere
 pub none_else_met : (n : ℕ) × (follow (event trio (quiet plain) 1) (chan trio 1) n ≡ at 1)
 unfolding computing
-none_else_met = came (trio_promised.none_else (quiet plain) 1 (voice (after trio (quiet plain)) 1) refl)
+none_else_met = came (trio_promised.none_else (quiet plain) 1 (voice (after trio (quiet plain)) 1) (look_some (live (chan (after trio (quiet plain)) 1)) 1 blank_voice (lit< tt)))
   where
     came : ((n : ℕ) × (v : Voice) × (voice_at (chan trio 1) n ≡ some v) × (follow (event trio (quiet plain) 1) (chan trio 1) n ≡ at 1))
         ⊎ ((1 ≡ length (live (chan trio 1))) × (added_by (event trio (quiet plain) 1) (chan trio 1) ≡ voice (after trio (quiet plain)) 1 ∷ []))
@@ -284,10 +288,13 @@ unfolding computing
 larger_needed = refl
 
 -- the finishing sample itself may be the last: play-once with no decay
-pub goes_at_once : follow_all (events (run older (quiet once ∷ [])) (quiet once ∷ []) 1) (chan (run older (quiet once ∷ [])) 1) 0 ≡ gone
+abbrev played_once : World
+played_once = run (set_up 2 init cells) (recorded ++ (press 60 ∷ quiet once ∷ []))
+
+pub goes_at_once : follow_all (events played_once (quiet once ∷ []) 1) (chan played_once 1) 0 ≡ gone
 unfolding computing
 goes_at_once =
-    (demand3 2 init cells refl (recorded ++ (press 60 ∷ quiet once ∷ [])) 1 (lit< tt)).goes (quiet once) 0 (get_or (live (chan (run older (quiet once ∷ [])) 1)) 0 blank_voice) refl refl [] once zero32 part refl refl (lit≤ tt)
+    (demand3 2 init cells refl (recorded ++ (press 60 ∷ quiet once ∷ [])) 1 (lit< tt)).goes (quiet once) 0 (voice played_once 0) (look_some (live (chan played_once 1)) 0 blank_voice (lit< tt)) refl [] once zero32 part refl refl (lit≤ tt)
 
 -- a recording that is empty keeps a finished voice, however late
 pub empty_keeps : follow_all (events older (stop (key 60) plain ∷ start_recording ∷ stop_recording ∷ quiet plain ∷ quiet plain ∷ []) 1) (chan older 1) 0 ≡ at 0
@@ -397,11 +404,6 @@ pub sizes_met : ((makes (set_up 2 init (0 ∷ cells)) (map one leaving)).sampler
 unfolding computing
 sizes_met = (demands.count_stays 2 init (0 ∷ cells) refl (map one leaving), demands.capacity_stays 2 init (0 ∷ cells) refl (map one leaving))
 
-fitting_joined : (cs ds : List Call) → Each FittingCall cs → Each FittingCall ds → Each FittingCall (cs ++ ds)
-unfolding Each
-fitting_joined [] ds f g = g
-fitting_joined (c ∷ cs) ds f g = (f.0, fitting_joined cs ds f.1 g)
-
 fitting_presses : (n : ℕ) → Each FittingCall (replicate n (press 60))
 unfolding Each FittingCall FittingChange fits
 fitting_presses zero = tt
@@ -413,7 +415,7 @@ fitting_recorded = (tt, (tt, (tt, (tt, tt))))
 
 fitting_leaving : Each FittingCall leaving
 unfolding Each FittingCall FittingChange fits
-fitting_leaving = fitting_joined recorded (replicate 32 (press 60) ++ gone_by) fitting_recorded (fitting_joined (replicate 32 (press 60)) gone_by (fitting_presses 32) (tt, (tt, tt)))
+fitting_leaving = both_fit recorded (replicate 32 (press 60) ++ gone_by) fitting_recorded (both_fit (replicate 32 (press 60)) gone_by (fitting_presses 32) (tt, (tt, tt)))
 
 none_full : (j : ℕ) → j < 2 → full_of (chan left j) ≡ false
 unfolding computing
@@ -432,7 +434,7 @@ plays = record { present = lit< tt; stands = refl; floats = tt; sample = refl; f
 
 fitting_older : Each FittingCall (recorded ++ (press 60 ∷ []))
 unfolding Each
-fitting_older = fitting_joined recorded (press 60 ∷ []) fitting_recorded (fitting_presses 1)
+fitting_older = both_fit recorded (press 60 ∷ []) fitting_recorded (fitting_presses 1)
 
 pub asked_met : Asked (tick_at plain part (chan older 1) (fresh_of plain zero32 (key 60) one32 then)) (fresh_of plain zero32 (key 60) one32 then)
 unfolding computing
@@ -451,7 +453,7 @@ strays = record { present = lit< tt; stands = refl; floats = tt; sample = refl; 
 
 fitting_astray : Each FittingCall (recorded ++ (press 60 ∷ speed (key 60) nan ∷ []))
 unfolding Each FittingCall FittingChange fits
-fitting_astray = fitting_joined recorded (press 60 ∷ speed (key 60) nan ∷ []) fitting_recorded ((tt, tt, tt), (tt, tt))
+fitting_astray = both_fit recorded (press 60 ∷ speed (key 60) nan ∷ []) fitting_recorded ((tt, tt, tt), (tt, tt))
 
 pub placed_met : AllPlaced (tick_at plain part (chan astray 1) strayed) strayed
 unfolding computing
@@ -515,9 +517,9 @@ shown = since (start quarter (key 60) one32 plain ∷ quiet plain ∷ quiet plai
 abbrev rest : VoiceInfo
 rest = record { start = two; end = two; pos = two }
 
-pub filled_met : ((settled (on shown (asks (fill_voice_info 1 halved (rest ∷ rest ∷ []))))).outcome.answer ≡ counted.Done 1)
+pub filled_met : ((settled (on shown (asks (fill_voice_info 1 halved (rest ∷ rest ∷ []))))).outcome.answer ≡ Ok 1)
     × ((settled (on shown (asks (fill_voice_info 1 halved (rest ∷ rest ∷ []))))).outcome.lent ≡ record { start = quarter; end = fin false 3 (negsuc 1); pos = half } ∷ rest ∷ [])
-unfolding computing voice_info_of info_number
+unfolding computing voice_info_of get_voice_info_of
 filled_met =
     let r = settled (on shown (asks (fill_voice_info 1 halved (rest ∷ rest ∷ [])))) in
     demands.first.filled shown 1 halved (rest ∷ rest ∷ []) r.outcome r.allowed refl refl
@@ -548,7 +550,7 @@ pub waveform_numbers_met : (code older (asks (get_waveform_summary 0 [])) ≡ 0)
     × (code older (asks (get_waveform_summary 4096 [])) ≡ 8)
     × (code older (asks (get_waveform_summary 4097 [])) ≡ 11)
     × (code (record { sampler = older.sampler; memory = [] }) (asks (get_waveform_summary 4097 [])) ≡ 9)
-unfolding computing waveform_number
+unfolding computing waveform_judged
 waveform_numbers_met = (refl, refl, refl, refl, refl, refl)
 
 -- a refused call leaves all as it was
@@ -571,31 +573,31 @@ clocked a b =
     let w = set_up 2 init cells in
     with_channels (with_head (timed a (chan w 0).head) (chan w 0) ∷ with_head (timed b (chan w 1).head) (chan w 1) ∷ []) w.sampler
 
-abbrev answers : ℕ → ℕ → Ran
-answers frames number = record { frames = frames; number = number }
+abbrev answers : ℕ → Result (Unit {0}) Refusal → Ran
+answers frames done = record { frames = frames; done = done }
 
 -- as many frames as the largest clock has left; a run of no entries is done, at the clock's end too
-pub run_ends_met : (run_answer (clocked (2 ^ 48 - 5) 7) 10 plain 4 ≡ answers 5 0)
-    × (run_answer (clocked (2 ^ 48 - 3) (2 ^ 48 - 3)) 10 plain 4 ≡ answers 3 6)
-    × (run_answer (clocked (2 ^ 48 - 3) (2 ^ 48 - 1)) 10 plain 4 ≡ answers 1 6)
-    × (run_answer (clocked (2 ^ 48 - 1) (2 ^ 48 - 3)) 10 plain 4 ≡ answers 1 6)
-    × (run_answer (clocked (2 ^ 48) 0) 2 plain 4 ≡ answers 0 6)
-    × (run_answer (clocked 0 0) 0 plain 4 ≡ answers 0 0)
-    × (run_answer (clocked (2 ^ 48) (2 ^ 48)) 0 plain 4 ≡ answers 0 0)
+pub run_ends_met : (run_answer (clocked (2 ^ 48 - 5) 7) 10 plain 4 ≡ answers 5 (Ok tt))
+    × (run_answer (clocked (2 ^ 48 - 3) (2 ^ 48 - 3)) 10 plain 4 ≡ answers 3 (Err ClockEnd))
+    × (run_answer (clocked (2 ^ 48 - 3) (2 ^ 48 - 1)) 10 plain 4 ≡ answers 1 (Err ClockEnd))
+    × (run_answer (clocked (2 ^ 48 - 1) (2 ^ 48 - 3)) 10 plain 4 ≡ answers 1 (Err ClockEnd))
+    × (run_answer (clocked (2 ^ 48) 0) 2 plain 4 ≡ answers 0 (Err ClockEnd))
+    × (run_answer (clocked 0 0) 0 plain 4 ≡ answers 0 (Ok tt))
+    × (run_answer (clocked (2 ^ 48) (2 ^ 48)) 0 plain 4 ≡ answers 0 (Ok tt))
 unfolding computing
 run_ends_met = (refl, refl, refl, refl, refl, refl, refl)
 
 -- a channel that isn't in use ends no run
-pub run_alone_met : run_answer (record { channels = (clocked (2 ^ 48 - 3) (2 ^ 48)).channels; count = 1; capacity = 2 }) 5 plain 4 ≡ answers 3 6
+pub run_alone_met : run_answer (record { channels = (clocked (2 ^ 48 - 3) (2 ^ 48)).channels; count = 1; capacity = 2 }) 5 plain 4 ≡ answers 3 (Err ClockEnd)
 unfolding computing
 run_alone_met = refl
 
 -- 9, then 10, then 4, then 6, each where those behind it hold too; and 10 alone
-pub run_rows_met : (run_answer (clocked (2 ^ 48) 0) 3 (with 16777217 loop.Loop off.Decay) 3 ≡ answers 0 9)
-    × (run_answer (clocked (2 ^ 48) 0) 3 (with 16777217 loop.Loop off.Decay) 4 ≡ answers 0 10)
-    × (run_answer (clocked (2 ^ 48) 0) 2 (with 16777217 loop.Loop off.Decay) 4 ≡ answers 0 4)
-    × (run_answer (clocked (2 ^ 48) 0) 0 (with 16777217 loop.Loop off.Decay) 4 ≡ answers 0 4)
-    × (run_answer (clocked 0 0) 3 plain 4 ≡ answers 0 10)
+pub run_rows_met : (run_answer (clocked (2 ^ 48) 0) 3 (with 16777217 loop.Loop off.Decay) 3 ≡ answers 0 (Err Broken))
+    × (run_answer (clocked (2 ^ 48) 0) 3 (with 16777217 loop.Loop off.Decay) 4 ≡ answers 0 (Err BadRun))
+    × (run_answer (clocked (2 ^ 48) 0) 2 (with 16777217 loop.Loop off.Decay) 4 ≡ answers 0 (Err BeyondLimits))
+    × (run_answer (clocked (2 ^ 48) 0) 0 (with 16777217 loop.Loop off.Decay) 4 ≡ answers 0 (Err BeyondLimits))
+    × (run_answer (clocked 0 0) 3 plain 4 ≡ answers 0 (Err BadRun))
 unfolding computing
 run_rows_met = (refl, refl, refl, refl, refl)
 

@@ -28,7 +28,7 @@ use Rattle.promises.proofs.Turns.{in_turn, kept_makes, standing_makes}
 use Rattle.promises.proofs.Whole as calls
 
 -- ---- runs
-run_more : (w : World) (bs cs : List Call) → run w (bs ++ cs) ≡ run (run w bs) cs
+pub run_more : (w : World) (bs cs : List Call) → run w (bs ++ cs) ≡ run (run w bs) cs
 unfolding run
 run_more w [] cs = refl
 run_more w (b ∷ bs) cs = run_more (after w b) bs cs
@@ -48,7 +48,7 @@ sound_run w [] f h = h
 sound_run w (c ∷ cs) f h = sound_run (after w c) cs f.1 (sound_after w c f.0 h)
 
 -- ---- what a host's call is spread into fits, and leaves what it leaves
-both_fit : (bs cs : List Call) → Each FittingCall bs → Each FittingCall cs → Each FittingCall (bs ++ cs)
+pub both_fit : (bs cs : List Call) → Each FittingCall bs → Each FittingCall cs → Each FittingCall (bs ++ cs)
 unfolding Each
 both_fit [] cs f g = g
 both_fit (b ∷ bs) cs f g = (f.0, both_fit bs cs f.1 g)

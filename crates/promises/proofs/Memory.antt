@@ -7,18 +7,20 @@ use borrow.Author.Tests.{eqb-true, eqb-false}
 use lib.Dec.{eqb, ltb}
 use lib.ListN.{length, take, drop, get_or}
 use lib.Ieee.{Float}
+use Rattle.std.specs.Prelude.{is_ok}
+use Rattle.refusals.proofs.Codes.{zero_at}
 use Rattle.common_types.specs.declared.Params.{Params}
 use Rattle.binary32.specs.Leaves.{zero32}
-use Rattle.walks.specs.Walks.{any}
+use Rattle.std.specs.List.{list_any}
 use Rattle.walks.proofs.Tests.{neither}
 use Rattle.channel.specs.declared.Channel.{Channel}
 use Rattle.channel.specs.Channels.{memory_of}
 use Rattle.sampler.specs.declared.Sampler.{Sampler}
-use Rattle.sampler.specs.Refusals.{channel_at, sample_number, frame_number}
+use Rattle.sampler.specs.Refusals.{channel_at, sample_judged, frame_judged}
 use Rattle.sampler.specs.Samplers.{part_of, memory_at, sample_memory, Framed, framed, entries_of, framed_of}
 use Rattle.sampler.proofs.Rows.{sample_ready, frame_steps}
 use Rattle.fates.specs.Events.{Event, idle, changes, gathers, sounds, is_sample}
-use Rattle.promises.specs.Runs.{World, Call, change, sample, frame, read_wave, gather, asks, code, after, chan, own_part, done_to, event, events, run, rewrites}
+use Rattle.promises.specs.Runs.{World, Call, change, sample, frame, read_wave, gather, asks, call_judged, after, chan, own_part, done_to, event, events, run, rewrites}
 use Rattle.promises.proofs.Apart.{part_apart, part_own, frame_part}
 use Rattle.promises.proofs.Calls.{kept}
 
@@ -46,20 +48,20 @@ module _ (w : World) (j : ℕ) where
   m = w.memory
 
   sample_part : (i : ℕ) (x : Float) (p : Params) → part_of s j (sample_memory s i x p m) ≡ part_by (event w (sample i x p) j) (chan w j) (own_part w j)
-  unfolding sample_memory event code done_to s m
-  sample_part i x p = go (eqb (sample_number s i p (length m)) 0) refl (eqb i j) refl
+  unfolding sample_memory event call_judged done_to s m
+  sample_part i x p = go (is_ok (sample_judged s i p (length m))) refl (eqb i j) refl
     where
-      go : (a : Bool) → eqb (sample_number s i p (length m)) 0 ≡ a → (b : Bool) → eqb i j ≡ b
+      go : (a : Bool) → is_ok (sample_judged s i p (length m)) ≡ a → (b : Bool) → eqb i j ≡ b
           → part_of s j (cond a (memory_at s i x m) m) ≡ part_by (cond a (cond b (sounds p x (part_of s j m)) idle) idle) (channel_at s j) (part_of s j m)
       go false e b f = refl
       go true e true f =
-          let r = (sample_ready s i p (length m) (eqb-true _ 0 e)).part in
+          let r = (sample_ready s i p (length m) (zero_at _ e)).part in
           subst (λ (k : ℕ). part_of s k (memory_at s i x m) ≡ memory_of x (channel_at s k) (part_of s k m)) (eqb-true i j f) (part_own s i m r x)
-      go true e false f = part_apart s i m (sample_ready s i p (length m) (eqb-true _ 0 e)).part x j (λ q. eqb-false i j f (sym q))
+      go true e false f = part_apart s i m (sample_ready s i p (length m) (zero_at _ e)).part x j (λ q. eqb-false i j f (sym q))
 
   frame_parts : (xs : List Float) (p : Params) → own_part (after w (frame xs p)) j ≡ part_by (event w (frame xs p) j) (chan w j) (own_part w j)
-  unfolding after framed_of event code done_to s m
-  frame_parts xs p = go (eqb (frame_number s (length xs) p (length m)) 0) refl
+  unfolding after framed_of event call_judged done_to s m
+  frame_parts xs p = go (is_ok (frame_judged s (length xs) p (length m))) refl
     where
       f : Framed
       f = framed s xs m
@@ -69,21 +71,21 @@ module _ (w : World) (j : ℕ) where
       which true e = e
       which false e = e
 
-      go : (a : Bool) → eqb (frame_number s (length xs) p (length m)) 0 ≡ a
+      go : (a : Bool) → is_ok (frame_judged s (length xs) p (length m)) ≡ a
           → part_of (cond a (entries_of p (length xs) 0 f) f).sampler j (cond a (entries_of p (length xs) 0 f) f).memory
           ≡ part_by (cond a (cond (ltb j (length xs)) (sounds p (get_or xs j zero32) (part_of s j m)) idle) idle) (channel_at s j) (part_of s j m)
-      go true e = which (ltb j (length xs)) (frame_part s xs p m (frame_steps s (length xs) p (length m) (eqb-true _ 0 e)) j)
+      go true e = which (ltb j (length xs)) (frame_part s xs p m (frame_steps s (length xs) p (length m) (zero_at _ e)) j)
       go false e = refl
 
   -- of a call that is neither a read nor a gather
   part_after : (c : Call) → rewrites c ≡ false → own_part (after w c) j ≡ part_by (event w c j) (chan w j) (own_part w j)
   unfolding after event done_to rewrites s m
-  part_after (change d) r = same_part s _ j m (kept w (change d)).capacity ∙ still (eqb (code w (change d)) 0) (changes d) (chan w j) (own_part w j) refl
+  part_after (change d) r = same_part s _ j m (kept w (change d)).capacity ∙ still (is_ok (call_judged w (change d))) (changes d) (chan w j) (own_part w j) refl
   part_after (sample i x p) r = same_part s _ j (sample_memory s i x p m) (kept w (sample i x p)).capacity ∙ sample_part i x p
   part_after (frame xs p) r = frame_parts xs p
   part_after (read_wave f) r = absurd (true≢false r)
   part_after gather r = absurd (true≢false r)
-  part_after (asks q) r = still (eqb (code w (asks q)) 0) idle (chan w j) (own_part w j) refl
+  part_after (asks q) r = still (is_ok (call_judged w (asks q))) idle (chan w j) (own_part w j) refl
 
   not_sampled : (e : Event) (c : Channel) (k : List ℕ) → is_sample e ≡ false → part_by e c k ≡ k
   unfolding is_sample
@@ -106,16 +108,16 @@ module _ (w : World) (j : ℕ) where
   no_rewrite (change d) p x k h = refl
   no_rewrite (sample i y q) p x k h = refl
   no_rewrite (frame xs q) p x k h = refl
-  no_rewrite (read_wave f) p x k h = sym (ap is_sample h) ∙ unsampled (eqb (code w (read_wave f)) 0) (done_to w (read_wave f) j) refl
-  no_rewrite gather p x k h = sym (ap is_sample h) ∙ unsampled (eqb (code w gather) 0) (done_to w gather j) refl
+  no_rewrite (read_wave f) p x k h = sym (ap is_sample h) ∙ unsampled (is_ok (call_judged w (read_wave f))) (done_to w (read_wave f) j) refl
+  no_rewrite gather p x k h = sym (ap is_sample h) ∙ unsampled (is_ok (call_judged w gather)) (done_to w gather j) refl
   no_rewrite (asks q) p x k h = refl
 
   pub part_written : (c : Call) (p : Params) (x : Float) (k : List ℕ) → event w c j ≡ sounds p x k → own_part (after w c) j ≡ memory_of x (chan w j) k
   part_written c p x k h = part_after c (no_rewrite c p x k h) ∙ ap (λ (e : Event). part_by e (chan w j) (own_part w j)) h
 
 -- several calls
-pub parts_unwritten : (w : World) (cs : List Call) (j : ℕ) → any is_sample (events w cs j) ≡ false → any rewrites cs ≡ false → own_part (run w cs) j ≡ own_part w j
-unfolding run events any
+pub parts_unwritten : (w : World) (cs : List Call) (j : ℕ) → list_any is_sample (events w cs j) ≡ false → list_any rewrites cs ≡ false → own_part (run w cs) j ≡ own_part w j
+unfolding run events
 parts_unwritten w [] j h r = refl
 parts_unwritten w (c ∷ cs) j h r =
     let a = neither (is_sample (event w c j)) _ h in

@@ -1,29 +1,28 @@
--- Each public call has one outcome that its contract allows, and no other; what it leaves and its number are those that runs go by. Assumes nothing.
+-- Each public call has one outcome that its contract allows, and no other; what it leaves and how it is judged are those that runs go by. Assumes nothing.
 use mathlib.Core.Path.{◌≡◌, refl, sym, ap, ◌∙◌, subst}
-use mathlib.Core.Bool.{Bool, true, false, cond}
+use mathlib.Core.Bool.{Bool, true, false, not}
 use mathlib.Core.List.{List, [], ◌∷◌}
 use Prim.Native.Nat.{ℕ}
-use borrow.Author.Tests.{eqb-true}
-use lib.Dec.{eqb}
+use lib.Dec.{ltb}
 use lib.ListN.{length}
 use lib.Ieee.{Float}
-use Rattle.recorder.specs.ErrorText.{error_text}
-use Rattle.channel.specs.Channels.{live}
+use Rattle.std.specs.Prelude.{Result, Ok, Err}
+use Rattle.refusals.specs.declared.Refusal.{Refusal}
+use Rattle.refusals.specs.declared.Refusal.TheVariants.{NoChannel, ShortList, Broken, TooManyColumns}
+use Rattle.refusals.specs.Refusals.{code_of, row}
+use Rattle.sampler.specs.declared.Sampler.{Sampler}
 use Rattle.sampler.specs.declared.Answer.{Answer}
 use Rattle.sampler.specs.declared.SampleAnswer.{SampleAnswer}
-use Rattle.sampler.specs.Refusals.{channel_at, frame_number}
+use Rattle.sampler.specs.Refusals.{good_sampler, good_with, no_channel, frame_judged, question_rows, channel_judged}
 use Rattle.common_types.specs.declared.Params.{Params}
 use Rattle.sampler.specs.Samplers.{answer_of, process_sample_of, gather_of, gather_memory, framed_of, frame_moved, ran_of, run_answer}
 use Rattle.questions.specs.declared.VoiceInfos.{VoiceInfos}
-use Rattle.questions.specs.declared.Counted.TheVariants as counted
 use Rattle.questions.specs.Lists.{infos_counted, voice_info_counted, voice_info_after}
-use Rattle.questions.specs.Questions.{counted_number, told_number, offset_number, recorder_at, notes_of, answered, print_error_info_of, error_text_after, iter_active_notes_of, active_notes_after, get_voice_info_of}
-use Rattle.questions.specs.declared.WaveformSummary.{WaveformSummary}
-use Rattle.questions.specs.Waveforms.{get_waveform_summary_of, waveform_after}
-use Rattle.questions.proofs.Numbers.{frames_number, data_len_number, recording_number, offset_number_lem, list_number_lem, info_number_lem, summary_number}
+use Rattle.questions.specs.Questions.{print_error_info_of, error_text_after, iter_active_notes_of, active_notes_after, get_voice_info_of}
+use Rattle.questions.specs.Waveforms.{waveform_judged, get_waveform_summary_of, waveform_after}
+use Rattle.wave.specs.Reader.{file_judged}
 use Rattle.recordings.specs.declared.ReadAnswer.{ReadAnswer}
-use Rattle.recordings.specs.Waves.{write_wave_of, wave_after, read_wave_of, read_memory}
-use Rattle.recordings.proofs.Numbers.{write_number_lem}
+use Rattle.recordings.specs.Waves.{given, write_judged, write_wave_of, wave_after, read_judged, read_wave_of, read_memory}
 use Rattle.smf.specs.Cues as song
 use Rattle.promises.specs.Runs.{
   World,
@@ -37,7 +36,7 @@ use Rattle.promises.specs.Runs.{
   fill_voice_info,
   get_waveform_summary,
   write_wave,
-  question_number,
+  question_judged,
   Call,
   change,
   sample,
@@ -45,7 +44,8 @@ use Rattle.promises.specs.Runs.{
   read_wave,
   gather,
   asks,
-  code,
+  judgement_of,
+  call_judged,
   after,
   output,
   Made,
@@ -54,7 +54,7 @@ use Rattle.promises.specs.Runs.{
   made,
   makes,
 }
-use Rattle.promises.specs.Outcomes.{Given, new, on, along, reads, plays, RunOutcome, Outcome, Allows, Settled, number_in, left_by, world_left_along, output_in, Chain, ended, called, ran}
+use Rattle.promises.specs.Outcomes.{Given, new, on, along, reads, plays, RunOutcome, Outcome, Allows, Settled, judged_in, left_by, world_left_along, output_in, Chain, ended, called, ran}
 
 -- ---- one outcome
 pub settled : (g : Given) → Settled g
@@ -69,12 +69,12 @@ settled (on w (frame xs p)) =
     let f = framed_of w.sampler xs p w.memory in
     record {
       outcome = record {
-        answer = record { sampler = f.sampler; number = frame_number w.sampler (length xs) p (length w.memory); moved = frame_moved w.sampler xs p w.memory };
+        answer = record { sampler = f.sampler; done = frame_judged w.sampler (length xs) p (length w.memory); moved = frame_moved w.sampler xs p w.memory };
         frame = f.frame;
         memory = f.memory;
       };
       allowed = (refl, record { sampler = refl; frame = refl; memory = refl }, refl);
-      only = λ r h t. record { answer = record { sampler = h.1.sampler t; number = h.0 t; moved = h.2 t }; frame = h.1.frame t; memory = h.1.memory t };
+      only = λ r h t. record { answer = record { sampler = h.1.sampler t; done = h.0 t; moved = h.2 t }; frame = h.1.frame t; memory = h.1.memory t };
     }
 settled (along w xs p) =
     let f = ran_of w.sampler xs p w.memory in
@@ -137,33 +137,49 @@ settled (on w (asks (write_wave rate out))) = record {
 pub one_outcome : (g : Given) (r s : Outcome g) → Allows g r → Allows g s → r ≡ s
 one_outcome g r s h k = (settled g).only r h ∙ sym ((settled g).only s k)
 
--- ---- the number
-counted_number_lem : (v : VoiceInfos) → counted_number (infos_counted v) ≡ v.number
-unfolding infos_counted answered
-counted_number_lem v = go (eqb v.number 0) refl
-  where
-    go : (b : Bool) → eqb v.number 0 ≡ b → counted_number (cond b (counted.Done v.count) (counted.Refused v.number)) ≡ v.number
-    go true e = sym (eqb-true v.number 0 e)
-    go false e = refl
+-- ---- how it is judged
+pub judgement_code : {A : Type 0} (r : Result A Refusal) → code_of (judgement_of r) ≡ code_of r
+judgement_code (Ok x) = refl
+judgement_code (Err e) = refl
 
-pub number_code : (w : World) (c : Call) (r : Outcome (on w c)) → Allows (on w c) r → number_in (on w c) r ≡ code w c
-unfolding code question_number answer_of process_sample_of read_wave_of gather_of
-number_code w (change d) r h = ap (λ (a : Answer). a.number) h
-number_code w (sample j x p) r h = ap (λ (a : SampleAnswer). a.number) h.0
-number_code w (frame xs p) r h = h.0
-number_code w (read_wave f) r h = ap (λ (a : ReadAnswer). a.read.number) h.0
-number_code w gather r h = ap (λ (a : Answer). a.number) h.0
-number_code w (asks (get_frames_processed j)) r h = ap counted_number h ∙ frames_number w.sampler j
-number_code w (asks (get_data_len j)) r h = ap counted_number h ∙ data_len_number w.sampler j
-number_code w (asks (is_recording j)) r h = ap told_number h ∙ recording_number w.sampler j
-number_code w (asks (get_last_recorded_offset j)) r h = ap offset_number h ∙ offset_number_lem w.sampler j
-number_code w (asks (print_error_info j text)) r h = ap counted_number h.0 ∙ list_number_lem w.sampler j (error_text (recorder_at w.sampler j)) (length text)
-number_code w (asks (iter_active_notes j notes)) r h = ap counted_number h.0 ∙ list_number_lem w.sampler j (notes_of (live (channel_at w.sampler j))) (length notes)
-number_code w (asks (get_voice_info j p room)) r h = ap (λ (a : VoiceInfos). a.number) h ∙ info_number_lem w.sampler j p room
-number_code w (asks (fill_voice_info j p list)) r h =
-    ap counted_number h.0 ∙ counted_number_lem (get_voice_info_of w.sampler j p (length list)) ∙ info_number_lem w.sampler j p (length list)
-number_code w (asks (get_waveform_summary columns list)) r h = ap (λ (a : WaveformSummary). a.number) h.0 ∙ summary_number w.sampler columns (length list) w.memory
-number_code w (asks (write_wave rate out)) r h = ap counted_number h.0 ∙ write_number_lem w.sampler (length out) (length w.memory)
+judgement_row : {A : Type 0} (test : Bool) (e : Refusal) (r : Result A Refusal) (done : Result (Unit {0}) Refusal) → judgement_of r ≡ done
+    → judgement_of (row test e r) ≡ row test e done
+judgement_row true e r done h = refl
+judgement_row false e r done h = h
+
+judgement_given : {A : Type 0} (done : Result (Unit {0}) Refusal) (x : A) → judgement_of (given done x) ≡ done
+judgement_given (Ok t) x = refl
+judgement_given (Err e) x = refl
+
+-- a question of one channel
+judgement_question : {A : Type 0} (s : Sampler) (j : ℕ) (x : A) → judgement_of (question_rows s j (Ok x)) ≡ channel_judged s j
+unfolding channel_judged
+judgement_question s j x = judgement_row (not (good_sampler s)) Broken _ _ (judgement_row (no_channel s j) NoChannel _ _ refl)
+
+infos_judgement : (r : Result VoiceInfos Refusal) → judgement_of (infos_counted r) ≡ judgement_of r
+unfolding infos_counted
+infos_judgement (Ok v) = refl
+infos_judgement (Err e) = refl
+
+pub judged_code : (w : World) (c : Call) (r : Outcome (on w c)) → Allows (on w c) r → judged_in w c r ≡ call_judged w c
+unfolding call_judged question_judged answer_of process_sample_of read_wave_of gather_of get_waveform_summary_of waveform_judged write_wave_of
+judged_code w (change d) r h = ap (λ (a : Answer). a.done) h
+judged_code w (sample j x p) r h = ap (λ (a : SampleAnswer). a.done) h.0
+judged_code w (frame xs p) r h = h.0
+judged_code w (read_wave f) r h = ap (λ (a : ReadAnswer). judgement_of a.read) h.0 ∙ judgement_given (read_judged w.sampler (file_judged f) (length w.memory)) _
+judged_code w gather r h = ap (λ (a : Answer). a.done) h.0
+judged_code w (asks (get_frames_processed j)) r h = ap judgement_of h ∙ judgement_question w.sampler j _
+judged_code w (asks (get_data_len j)) r h = ap judgement_of h ∙ judgement_question w.sampler j _
+judged_code w (asks (is_recording j)) r h = ap judgement_of h ∙ judgement_question w.sampler j _
+judged_code w (asks (get_last_recorded_offset j)) r h = ap judgement_of h ∙ judgement_question w.sampler j _
+judged_code w (asks (print_error_info j text)) r h = ap judgement_of h.0
+judged_code w (asks (iter_active_notes j notes)) r h = ap judgement_of h.0
+judged_code w (asks (get_voice_info j p room)) r h = ap judgement_of h
+judged_code w (asks (fill_voice_info j p list)) r h = ap judgement_of h.0 ∙ infos_judgement (get_voice_info_of w.sampler j p (length list))
+judged_code w (asks (get_waveform_summary columns list)) r h =
+    ap judgement_of h.0
+    ∙ judgement_row (not (good_with w.sampler (length w.memory))) Broken _ _ (judgement_row (ltb 4096 columns) TooManyColumns _ _ (judgement_row (ltb (length list) columns) ShortList _ _ refl))
+judged_code w (asks (write_wave rate out)) r h = ap judgement_of h.0 ∙ judgement_given (write_judged w.sampler (length out) (length w.memory)) _
 
 -- ---- the record and the memory afterwards
 pub left_after : (w : World) (c : Call) (r : Outcome (on w c)) → Allows (on w c) r → left_by w c r ≡ after w c

@@ -1,5 +1,5 @@
 -- Eight phrases a channel (request 11/12), over runs of calls that are computed: each rule on either side of its edge, and runs that meet the premises of each statement. Assumes nothing.
-use mathlib.Core.Path.{◌≡◌, refl}
+use mathlib.Core.Path.{◌≡◌, refl, sym, ap, ◌∙◌}
 use mathlib.Core.Bool.{true, false}
 use mathlib.Core.List.{List, [], ◌∷◌, ◌++◌, map}
 use Prim.Native.Nat.{ℕ}
@@ -18,9 +18,10 @@ use Rattle.voice.specs.Voices.{blank_voice}
 use Rattle.channel.specs.Channels.{live}
 use Rattle.channel.specs.Soundness.{FittingChange}
 use Rattle.sampler.specs.Soundness.{FittingSampler}
+use Rattle.fates.specs.Events.{sounds}
 use Rattle.fates.specs.Sounding.{term_of}
 use Rattle.recordings.proofs.Examples.{computing as filing, mono}
-use Rattle.promises.specs.Runs.{World, Call, stop, start_recording, stop_recording, choose_phrase, delete_phrase, reset, sample, read_wave, gather, set_up, run, after, code, chan, own_part, output, FittingCall}
+use Rattle.promises.specs.Runs.{World, Call, stop, start_recording, stop_recording, choose_phrase, delete_phrase, reset, sample, read_wave, gather, set_up, run, after, code, chan, own_part, output, FittingCall, event}
 use Rattle.promises.specs.Outcomes.{on, left_by}
 use Rattle.promises.specs.Recordings.{write_place_of}
 use Rattle.promises.specs.Phrases.{phrase, samples_in, all_phrases, Chosen, Deleted, MovedDown, OthersKept, Behind}
@@ -279,11 +280,19 @@ pub behind_met : Behind (laid (choose_phrase 7 ∷ [])) 0 (phrase (leaves (laid 
 unfolding computing Each FittingCall FittingChange fits
 behind_met = let r = settled (on (laid (choose_phrase 7 ∷ [])) start_recording) in (demands.phrases (laid (choose_phrase 7 ∷ []))).begins r.outcome r.allowed refl (laid_fits (choose_phrase 7 ∷ []) (tt, tt)) 0 (lit< tt) refl refl
 
+-- what is heard over a phrase is what was laid
+over_heard : event (laid (over0 [])) (sample 0 two plain) 0 ≡ sounds plain two (own_part (laid []) 0)
+unfolding computing
+over_heard =
+    let heard : event (laid (over0 [])) (sample 0 two plain) 0 ≡ sounds plain two (own_part (laid (over0 [])) 0) = refl in
+    let same : own_part (laid (over0 [])) 0 ≡ 0x3F000000 ∷ 0x3F800000 ∷ 0x40000000 ∷ 0x3E800000 ∷ 0x3F000000 ∷ 0 ∷ 0 ∷ 0 ∷ [] = refl in
+    heard ∙ ap (sounds plain two) (same ∙ sym laid_met.1)
+
 pub apart_met : OthersKept (laid (over0 [])) (leaves (laid (over0 [])) (sample 0 two plain)) 0
 unfolding computing Each FittingCall FittingChange fits
 apart_met =
     let r = settled (on (laid (over0 [])) (sample 0 two plain)) in
-    (demands.phrases (laid (over0 []))).sample_apart (sample 0 two plain) r.outcome r.allowed (laid_fits (over0 []) (tt, (tt, tt))) 0 (lit< tt) plain two (own_part (laid []) 0) refl
+    (demands.phrases (laid (over0 []))).sample_apart (sample 0 two plain) r.outcome r.allowed (laid_fits (over0 []) (tt, (tt, tt))) 0 (lit< tt) plain two (own_part (laid []) 0) over_heard
 
 pub not_lengthened_met : (phrase (leaves (laid (over0 (two ∷ two ∷ []))) (sample 0 two plain)) 0 0).length ≡ 2
 unfolding computing Each FittingCall FittingChange fits

@@ -12,7 +12,11 @@ use lib.Dec.{eqb, leb}
 use lib.ListN.{length, take, drop, get_or, length-drop, take-append-drop}
 use lib.Seq.{ext_get_or, drop-drop, length-take-le}
 use lib.Ieee.{Float}
-use Rattle.walks.specs.Walks.{any}
+use Rattle.std.specs.List.{list_any}
+use Rattle.std.specs.Prelude.{is_ok}
+use Rattle.refusals.specs.declared.Refusal.TheVariants.{Broken, NoPhrase, PhraseInUse, PhraseRecording}
+use Rattle.refusals.proofs.Codes.{done_at, zero_at, passed}
+use Rattle.refusals.proofs.Numbers.{code_row}
 use Rattle.common_types.specs.declared.Params.{Params}
 use Rattle.phrases.specs.declared.Phrase.{Phrase}
 use Rattle.phrases.specs.Phrases.{no_phrase, no_samples, reach_of, stored_in, good_phrases}
@@ -44,10 +48,10 @@ use Rattle.channel.proofs.Gathers.{gathered_phrase, gathered_phrase_length, gath
 use Rattle.channel.proofs.Phrases.{choose_leaves, delete_leaves, delete_empties, memory_leaves, read_inside, read_leaves}
 use Rattle.sampler.specs.declared.Sampler.{Sampler}
 use Rattle.sampler.specs.declared.Answer.{Answer}
-use Rattle.sampler.specs.Refusals.{row, present, good_sampler, good_with, records, against_any, gather_number, sample_number, frame_number}
+use Rattle.sampler.specs.Refusals.{present, good_sampler, good_with, records, against_any, gather_judged, sample_judged, frame_judged, any_recording}
 use Rattle.sampler.specs.Samplers.{part_of, gather_memory}
 use Rattle.sampler.specs.Soundness.{FittingSampler, SoundSampler}
-use Rattle.sampler.proofs.Rows.{passed, is_true, good_sizes_lem, sizes_count, Fitting, fitting}
+use Rattle.sampler.proofs.Rows.{is_true, good_sizes_lem, sizes_count, Fitting, fitting}
 use Rattle.sampler.proofs.Entries.{part_length}
 use Rattle.sampler.proofs.Gathered.{gather_part}
 use Rattle.sampler.proofs.Kept.{small, channel_sound}
@@ -55,7 +59,7 @@ use Rattle.recordings.specs.Waves.{bad_file}
 use Rattle.recordings.proofs.Numbers.{Loads, read_says}
 use Rattle.fates.specs.Engine.{step_of}
 use Rattle.fates.specs.Events.{Event, idle, sounds, act, is_sample}
-use Rattle.promises.specs.Runs.{World, Call, change, sample, frame, read_wave, gather, asks, choose_phrase, delete_phrase, start_recording, code, after, chan, own_part, done_to, event}
+use Rattle.promises.specs.Runs.{World, Call, change, sample, frame, read_wave, gather, asks, choose_phrase, delete_phrase, start_recording, call_judged, code, after, chan, own_part, done_to, event, row}
 use Rattle.promises.specs.Outcomes.{on, Outcome, ReadOutcome, GatherOutcome, Allows, left_by}
 use Rattle.promises.specs.Recordings.{write_place_of, beginning}
 use Rattle.promises.specs.Phrases.{phrase, chosen, end_of, records_other, in_use, OnlyPhrases, Chosen, Deleted, all_phrases, MovedDown, OthersKept, Behind, Phrases}
@@ -71,13 +75,13 @@ pub mod One
 
 -- ---- rows
 module _ (w : World) (k : ℕ) where
-  choose_rows : code w (choose_phrase k) ≡ row (not (good_sampler w.sampler)) 9 (row (leb 8 k) 19 (row (any (records_other k) (present w.sampler)) 21 0))
-  unfolding code against_any asks_of head_asks blocked_by
-  choose_rows = refl
+  choose_rows : code w (choose_phrase k) ≡ row (not (good_sampler w.sampler)) 9 (row (leb 8 k) 19 (row (list_any (records_other k) (present w.sampler)) 21 0))
+  unfolding call_judged against_any asks_of head_asks blocked_by
+  choose_rows = code_row (not (good_sampler w.sampler)) Broken _ _ (code_row (leb 8 k) NoPhrase _ _ (code_row (list_any (records_other k) (present w.sampler)) PhraseRecording _ _ refl))
 
-  delete_rows : code w (delete_phrase k) ≡ row (not (good_sampler w.sampler)) 9 (row (leb 8 k) 19 (row (any (in_use k) (present w.sampler)) 20 0))
-  unfolding code against_any asks_of head_asks blocked_by leaving_of
-  delete_rows = refl
+  delete_rows : code w (delete_phrase k) ≡ row (not (good_sampler w.sampler)) 9 (row (leb 8 k) 19 (row (list_any (in_use k) (present w.sampler)) 20 0))
+  unfolding call_judged against_any asks_of head_asks blocked_by leaving_of
+  delete_rows = code_row (not (good_sampler w.sampler)) Broken _ _ (code_row (leb 8 k) NoPhrase _ _ (code_row (list_any (in_use k) (present w.sampler)) PhraseInUse _ _ refl))
 
 -- ---- one phrase of a channel
 
@@ -150,7 +154,7 @@ part_inside s size g j l = le_trans (le_of_eq (sym (suc-mul j s.capacity))) (le_
 
 -- and a gather leaves its phrases there moved down
 part_gathered : (w : World) → code w gather ≡ 0 → (j : ℕ) → j < w.sampler.count → own_part (after w gather) j ≡ gathered_memory (chan w j) (own_part w j)
-unfolding code after part_of
+unfolding call_judged after part_of
 part_gathered w z j l =
     ap (λ (n : ℕ). take n (drop (j * n) (gather_memory w.sampler w.memory))) (kept w gather).capacity
     ∙ gather_part w.sampler w.memory z j l
@@ -176,18 +180,18 @@ module _ (w : World) (fit : FittingSampler w.sampler) where
   -- ---- changes of the heads
   module _ (d : HeadChange) (r : Answer) (a : Allows (on w (change (change.Head d))) r) (z : code w (change (change.Head d)) ≡ 0) where
     head_good : good_sampler s ≡ true
-    unfolding code
-    head_good = is_true (good_sampler s) (passed (not (good_sampler s)) 8 _ z).0
+    unfolding call_judged
+    head_good = is_true (good_sampler s) (passed (not (good_sampler s)) Broken _ z).0
 
     head_left : (j : ℕ) → j < s.count → chan (left_by w (change (change.Head d)) r) j ≡ head_changed_in d (chan w j)
     unfolding event done_to act
     head_left j l =
         ap (λ (x : World). chan x j) (left_after w (change (change.Head d)) r a)
         ∙ chan_after w fit.seats (at_most head_good) j l (change (change.Head d))
-        ∙ rw z refl
+        ∙ rw (done_at (call_judged w (change (change.Head d))) z) refl
 
   choice : (k : ℕ) (r : Answer) → Allows (on w (choose_phrase k)) r → code w (choose_phrase k) ≡ 0 → (j : ℕ) → j < s.count → Chosen w (left_by w (choose_phrase k) r) j k
-  unfolding code head_changed_in head_changed_of chosen_after recorder_after
+  unfolding call_judged head_changed_in head_changed_of chosen_after recorder_after
   choice k r a z j l = record {
     number = number;
     phrases = phrases;
@@ -202,7 +206,7 @@ module _ (w : World) (fit : FittingSampler w.sampler) where
       e = head_left (Choose k) r a z j l
 
       below : k < 8
-      below = leb-false 8 k (passed (leb 8 k) 18 _ (passed (not (good_sampler s)) 8 _ z).1).0
+      below = leb-false 8 k (passed (leb 8 k) NoPhrase _ (passed (not (good_sampler s)) Broken _ z).1).0
 
       number : d.head.chosen ≡ k
       number = ap (λ (x : Channel). x.head.chosen) e
@@ -217,7 +221,7 @@ module _ (w : World) (fit : FittingSampler w.sampler) where
       only = record { voices = refl; count = refl; clock = refl; recorder = refl; passthru = refl }
 
   delete : (k : ℕ) (r : Answer) → Allows (on w (delete_phrase k)) r → code w (delete_phrase k) ≡ 0 → (j : ℕ) → j < s.count → Deleted w (left_by w (delete_phrase k) r) j k
-  unfolding code head_changed_in head_changed_of chosen_after recorder_after
+  unfolding call_judged head_changed_in head_changed_of chosen_after recorder_after
   delete k r a z j l = record {
     empty = ap (λ (x : Channel). (phrase_at x k).length) e ∙ ap (λ (p : Phrase). p.length) (delete_empties s.capacity (chan w j) sounds_so k below);
     others = λ i b n. ap (λ (x : Channel). phrase_at x i) e ∙ delete_leaves s.capacity (chan w j) sounds_so k i b n;
@@ -236,7 +240,7 @@ module _ (w : World) (fit : FittingSampler w.sampler) where
       sounds_so = channel (head_good (Delete k) r a z) j l
 
       below : k < 8
-      below = leb-false 8 k (passed (leb 8 k) 18 _ (passed (not (good_sampler s)) 8 _ z).1).0
+      below = leb-false 8 k (passed (leb 8 k) NoPhrase _ (passed (not (good_sampler s)) Broken _ z).1).0
 
       number : d.head.chosen ≡ (chan w j).head.chosen
       number = ap (λ (x : Channel). x.head.chosen) e
@@ -283,24 +287,24 @@ module _ (w : World) (fit : FittingSampler w.sampler) where
 
     accepted : code w c ≡ 0
     unfolding event is_sample
-    accepted = go (eqb (code w c) 0) refl (ap is_sample h)
+    accepted = go (is_ok (call_judged w c)) refl (ap is_sample h)
       where
-        go : (b : Bool) → eqb (code w c) 0 ≡ b → is_sample (cond b (done_to w c j) idle) ≡ true → code w c ≡ 0
-        go true e f = eqb-true (code w c) 0 e
+        go : (b : Bool) → is_ok (call_judged w c) ≡ b → is_sample (cond b (done_to w c j) idle) ≡ true → code w c ≡ 0
+        go true e f = zero_at (call_judged w c) e
         go false e f = absurd (true≢false (sym f))
 
     sampled : (c : Call) → is_sample (done_to w c j) ≡ true → code w c ≡ 0 → good_sampler s ≡ true
-    unfolding code done_to is_sample sample_number frame_number
+    unfolding call_judged done_to is_sample sample_judged frame_judged
     sampled (change d) f z = absurd (true≢false (sym f))
-    sampled (sample i y q) f z = (fitting s (length w.memory) (is_true (good_with s (length w.memory)) (passed (not (good_with s (length w.memory))) 8 _ z).0)).good
-    sampled (frame xs q) f z = (fitting s (length w.memory) (is_true (good_with s (length w.memory)) (passed (not (good_with s (length w.memory))) 8 _ z).0)).good
+    sampled (sample i y q) f z = (fitting s (length w.memory) (is_true (good_with s (length w.memory)) (passed (not (good_with s (length w.memory))) Broken _ z).0)).good
+    sampled (frame xs q) f z = (fitting s (length w.memory) (is_true (good_with s (length w.memory)) (passed (not (good_with s (length w.memory))) Broken _ z).0)).good
     sampled (read_wave g) f z = absurd (true≢false (sym f))
     sampled gather f z = absurd (true≢false (sym f))
     sampled (asks q) f z = absurd (true≢false (sym f))
 
     good : good_sampler s ≡ true
     unfolding event is_sample
-    good = sampled c (sym (ap (λ (b : Bool). is_sample (cond b (done_to w c j) idle)) (eq-eqb (code w c) 0 accepted)) ∙ ap is_sample h) accepted
+    good = sampled c (sym (ap (λ (b : Bool). is_sample (cond b (done_to w c j) idle)) (done_at (call_judged w c) accepted)) ∙ ap is_sample h) accepted
 
     known : SoundChannel s.capacity now
     known = channel good j l
@@ -359,7 +363,7 @@ module _ (w : World) (fit : FittingSampler w.sampler) where
   -- ---- reads
   module _ (f : List ℕ) (r : ReadOutcome) (a : Allows (on w (read_wave f)) r) (z : code w (read_wave f) ≡ 0) where
     loads : Loads s (file_judged f) (length w.memory)
-    unfolding code
+    unfolding call_judged
     loads = read_says s (file_judged f) (length w.memory) z
 
     of_wave : (v : Wave) → file_judged f ≡ Is v → (j : ℕ) → j < s.count → OthersKept w (left_by w (read_wave f) r) j
@@ -432,22 +436,22 @@ module _ (w : World) (fit : FittingSampler w.sampler) where
     m = own_part w j
 
     whole : Fitting s (length w.memory)
-    unfolding code gather_number
-    whole = fitting s (length w.memory) (is_true (good_with s (length w.memory)) (passed (not (good_with s (length w.memory))) 8 _ z).0)
+    unfolding call_judged gather_judged
+    whole = fitting s (length w.memory) (is_true (good_with s (length w.memory)) (passed (not (good_with s (length w.memory))) Broken _ z).0)
 
-    judged : SoundChannel (length m) here
-    judged = subst (λ (n : ℕ). SoundChannel n here) (sym (part_length s j w.memory (part_inside s (length w.memory) whole j l))) (channel whole.good j l)
+    sound_here : SoundChannel (length m) here
+    sound_here = subst (λ (n : ℕ). SoundChannel n here) (sym (part_length s j w.memory (part_inside s (length w.memory) whole j l))) (channel whole.good j l)
 
     moved : chan (left_by w gather r) j ≡ gathered_in here m
     unfolding event done_to act
-    moved = ap (λ (u : World). chan u j) (left_after w gather r a) ∙ chan_after w fit.seats (at_most whole.good) j l gather ∙ rw z refl
+    moved = ap (λ (u : World). chan u j) (left_after w gather r a) ∙ chan_after w fit.seats (at_most whole.good) j l gather ∙ rw (done_at (call_judged w gather) z) refl
 
     moved_part : own_part (left_by w gather r) j ≡ gathered_memory here m
     moved_part = ap (λ (u : World). own_part u j) (left_after w gather r a) ∙ part_gathered w z j l
 
     -- all phrases, by their numbers
     all : all_phrases w j ≡ phrases_of here
-    all = ext_get_or no_phrase (all_phrases w j) (phrases_of here) (sym (phrases_length (length m) here judged)) (λ i b. at i b ∙ phrase_of_all (length m) here judged i b)
+    all = ext_get_or no_phrase (all_phrases w j) (phrases_of here) (sym (phrases_length (length m) here sound_here)) (λ i b. at i b ∙ phrase_of_all (length m) here sound_here i b)
       where
         at : (i : ℕ) → i < 8 → get_or (all_phrases w j) i no_phrase ≡ phrase_at here i
         at zero b = refl
@@ -461,24 +465,24 @@ module _ (w : World) (fit : FittingSampler w.sampler) where
         at (suc (suc (suc (suc (suc (suc (suc (suc i)))))))) b = absurd (omega arith)
 
     many : length (phrases_of here) ≡ 8
-    many = phrases_length (length m) here judged
+    many = phrases_length (length m) here sound_here
 
     fine : good_phrases (length m) (phrases_of here) ≡ true
-    fine = phrases_good (length m) here judged
+    fine = phrases_good (length m) here sound_here
 
     gathering : MovedDown w (left_by w gather r) j
     unfolding gathered_memory gathered_in
     gathering = record {
-      keeps = λ k b. (λ i. stored_in (phrase_at (moved i) k) (moved_part i)) ∙ gathered_stored here m judged k b;
-      lengths = λ k b. ap (λ (x : Channel). (phrase_at x k).length) moved ∙ gathered_phrase_length here m judged k b;
-      down = λ k b some. let own = phrase_of_all (length m) here judged k b in
+      keeps = λ k b. (λ i. stored_in (phrase_at (moved i) k) (moved_part i)) ∙ gathered_stored here m sound_here k b;
+      lengths = λ k b. ap (λ (x : Channel). (phrase_at x k).length) moved ∙ gathered_phrase_length here m sound_here k b;
+      down = λ k b some. let own = phrase_of_all (length m) here sound_here k b in
           ap (λ (x : Channel). (phrase_at x k).start) moved
-          ∙ ap (λ (p : Phrase). p.start) (gathered_phrase here m judged k b)
+          ∙ ap (λ (p : Phrase). p.start) (gathered_phrase here m sound_here k b)
           ∙ gather_start (phrases_of here) m many fine k b (ap no_samples (sym own) ∙ with_samples (phrase_at here k) some)
           ∙ (λ i. samples_before (sym own i).start (sym all i));
-      empty = λ k b none. let own = phrase_of_all (length m) here judged k b in
+      empty = λ k b none. let own = phrase_of_all (length m) here sound_here k b in
           ap (λ (x : Channel). phrase_at x k) moved
-          ∙ gathered_phrase here m judged k b
+          ∙ gathered_phrase here m sound_here k b
           ∙ gather_empty (phrases_of here) m many fine k b (ap no_samples (sym own) ∙ without_samples (phrase_at here k) none)
           ∙ sym own;
       free = (λ i. drop (samples_of_all (all i)) (moved_part i)) ∙ free ∙ sym (ap (λ (ps : List Phrase). drop (samples_of_all ps) m) all);
@@ -496,11 +500,11 @@ module _ (w : World) (fit : FittingSampler w.sampler) where
         only = record { voices = refl; count = refl; clock = refl; recorder = refl; passthru = refl }
 
 pub phrases : (w : World) → Phrases w
-unfolding code gather_number
+unfolding call_judged gather_judged
 phrases w = record {
   choose_rows = choose_rows w;
   delete_rows = delete_rows w;
-  gather_rows = refl;
+  gather_rows = code_row (not (good_with w.sampler (length w.memory))) Broken _ _ (code_row (any_recording w.sampler) PhraseRecording _ _ refl);
   choice = λ k r a z fit j l. choice w fit k r a z j l;
   delete = λ k r a z fit j l. delete w fit k r a z j l;
   gathering = λ r a z fit j l. gathering w fit r a z j l;

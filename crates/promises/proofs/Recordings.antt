@@ -10,6 +10,10 @@ use borrow.Author.Tests.{ltb-true, ltb-false}
 use lib.Dec.{eqb, ltb}
 use lib.ListN.{length, take, drop, get_or, length-take, length-drop}
 use lib.Seq.{take_at, drop_at, ext_get_or}
+use Rattle.std.specs.Prelude.{Ok}
+use Rattle.refusals.specs.declared.Refusal.TheVariants.{ShortList, Broken, Recording, OtherChannels, BadWave, NoRoom}
+use Rattle.refusals.proofs.Codes.{done_at}
+use Rattle.refusals.proofs.Numbers.{code_row, zero_unit}
 use Rattle.octets.specs.Octets.{Bytes}
 use Rattle.wave.specs.declared.Starts.{Starts}
 use Rattle.wave.specs.declared.Wave.{Wave}
@@ -36,18 +40,16 @@ use Rattle.channel.specs.Heads.{begins_at, holds_of, phrase_after, recorder_afte
 use Rattle.channel.specs.Tables.{table_after, several_after, found_by, blocked_by, short_by}
 use Rattle.channel.specs.Channels.{with_head, others_in, beside_in, behind_in, begins_in, head_changed_in}
 use Rattle.sampler.specs.declared.Sampler.{Sampler}
-use Rattle.sampler.specs.Refusals.{row, good_with, records, any_recording, against_any}
+use Rattle.sampler.specs.Refusals.{good_with, records, any_recording, against_any}
 use Rattle.sampler.specs.Samplers.{part_of}
 use Rattle.sampler.proofs.Rows.{Fitting, fitting}
 use Rattle.sampler.proofs.Against.{none_at}
-use Rattle.questions.specs.Questions.{answered}
-use Rattle.recordings.specs.Waves.{samples_of, starts_in, beginnings_in, layout_in, write_number, write_wave_of, wave_after, bad_file, held_in, read_number, read_wave_of, read_memory}
+use Rattle.recordings.specs.Waves.{samples_of, starts_in, beginnings_in, layout_in, write_judged, write_wave_of, wave_after, bad_file, held_in, read_judged, read_wave_of, read_memory, lengths_differ}
 use Rattle.recordings.specs.declared.ReadAnswer.{ReadAnswer}
-use Rattle.recordings.specs.declared.WaveRead.{WaveRead}
 use Rattle.recordings.proofs.Parts.{Roomy, beginnings_fit, part_read, part_before, part-rest, parts_rest, recording_there, alike_at}
 use Rattle.recordings.proofs.Numbers.{layout_fits, file_fits, Writes, write_says, Loads, read_says, loads_few}
 use Rattle.fates.specs.Events.{act}
-use Rattle.promises.specs.Runs.{World, read_wave, asks, write_wave, question_number, code, after, chan, own_part, done_to, event}
+use Rattle.promises.specs.Runs.{World, read_wave, asks, write_wave, question_judged, call_judged, code, after, chan, own_part, done_to, event, row}
 use Rattle.promises.specs.Outcomes.{on, ListOutcome, ReadOutcome, Allows, left_by}
 use Rattle.promises.proofs.Calls.{chan_after, kept}
 use Rattle.promises.proofs.Outcomes.{left_after}
@@ -65,8 +67,10 @@ module _ (w : World) where
   rows_of j = row (not (good_with s size)) 9 (row (any_recording s) 15 (row (bad_file j) 17 (row (not (eqb (held_in j).channels s.count)) 16 (row (no_room s (held_in j).samples) 18 0))))
 
   read_code : (f : List ℕ) (j : Judged) → file_judged f ≡ j → code w (read_wave f) ≡ rows_of j
-  unfolding code read_number against_any blocked_by short_by
-  read_code f j e = rw e refl
+  unfolding call_judged read_judged against_any blocked_by short_by
+  read_code f j e =
+      rw e
+      (code_row (not (good_with s size)) Broken _ _ (code_row (any_recording s) Recording _ _ (code_row (bad_file j) BadWave _ _ (code_row (not (eqb (held_in j).channels s.count)) OtherChannels _ _ (code_row (no_room s (held_in j).samples) NoRoom _ _ refl)))))
 
   read_rows : (f : List ℕ) (rate channels : ℕ) (words : List ℕ) (g : IsWave f rate channels words)
       → code w (read_wave f) ≡ row (not (good_with s size)) 9 (row (any_recording s) 15 (row (not (eqb channels s.count)) 16 (row (no_room s g.samples) 18 0)))
@@ -96,15 +100,15 @@ module _ (w : World) where
     file = file_of rate s.count n frames
 
     lets : Writes s (length out) size
-    unfolding code question_number
+    unfolding call_judged question_judged
     lets = write_says s (length out) size z
 
     long : length file ≡ bytes_in w
     long = length_file rate s.count n frames ∙ ap (λ (k : ℕ). 58 + 4 * k) (length_frames (layout_in s) w.memory)
 
     lent : r.lent ≡ file ++ drop (bytes_in w) out
-    unfolding code question_number wave_after
-    lent = a.1 ∙ rw z refl
+    unfolding call_judged question_judged wave_after
+    lent = a.1 ∙ rw (zero_unit (write_judged s (length out) size) z) refl
 
     in_front_lem : take (bytes_in w) r.lent ≡ file
     in_front_lem = ap (take (bytes_in w)) lent ∙ take_at file _ (bytes_in w) long
@@ -127,7 +131,7 @@ module _ (w : World) where
     good = subst Good (sym in_front_lem) (record { is = file_good rate s.count n frames fits_file; samples = file_samples rate s.count n frames fits_file })
 
     pub written : Written w rate out r
-    unfolding code question_number write_wave_of answered
+    unfolding call_judged question_judged write_wave_of
     written = record {
       words = frames;
       file = in_front_lem;
@@ -136,7 +140,7 @@ module _ (w : World) where
       recordings = λ j k. recording_there s whole.good at_most j k w.memory
           ∙ ap (λ (x : ℕ). recording_at (starts_in s) x j w.memory) (alike_at s two at_most lets.alike j k)
           ∙ sym (frames_recording (layout_in s) w.memory (fits_true (layout_in s) size (layout_fits s size lets.good two lets.alike)) j k);
-      answer = a.0 ∙ rw z refl;
+      answer = a.0 ∙ rw (zero_unit (write_judged s (length out) size) z) refl;
       rest = ap (drop (bytes_in w)) lent ∙ drop_at file _ (bytes_in w) long;
     }
 
@@ -178,7 +182,7 @@ module _ (w : World) (f : List ℕ) (r : ReadOutcome) (a : Allows (on w (read_wa
   held = ap held_in judged
 
   loads : Loads rec (file_judged f) (length w.memory)
-  unfolding code
+  unfolding call_judged
   loads = read_says rec (file_judged f) (length w.memory) z
 
   fit : Fitting rec (length w.memory)
@@ -204,7 +208,7 @@ module _ (w : World) (f : List ℕ) (r : ReadOutcome) (a : Allows (on w (read_wa
   -- the record
   head_is : (j : ℕ) → j < rec.count → chan u j ≡ with_head (beginning (begins_in (chan w j)) n (chan w j).head) (chan w j)
   unfolding event done_to act head_changed_in head_changed_of table_after several_after found_by phrase_after recorder_after interpolates_after chosen_after
-  head_is j h = ap (λ (x : World). chan x j) left ∙ chan_after w two fit.few j h (read_wave f) ∙ rw (z, held, samples_are) refl
+  head_is j h = ap (λ (x : World). chan x j) left ∙ chan_after w two fit.few j h (read_wave f) ∙ rw (done_at (call_judged w (read_wave f)) z, held, samples_are) refl
 
   capacity_same : u.sampler.capacity ≡ rec.capacity
   capacity_same = ap (λ (x : World). x.sampler.capacity) left ∙ (kept w (read_wave f)).capacity
@@ -217,8 +221,8 @@ module _ (w : World) (f : List ℕ) (r : ReadOutcome) (a : Allows (on w (read_wa
   then = loaded_of f starts w.memory
 
   memory_is : u.memory ≡ then
-  unfolding code read_memory
-  memory_is = a.1 ∙ rw z refl
+  unfolding call_judged read_memory
+  memory_is = a.1 ∙ rw (zero_unit (read_judged rec (file_judged f) (length w.memory)) z) refl
 
   own_part_lem : (j : ℕ) → own_part u j ≡ part_of rec j then
   unfolding part_of
@@ -284,9 +288,9 @@ module _ (w : World) (f : List ℕ) (rate channels : ℕ) (words : List ℕ) (g 
   t = loaded w f r a z two k.wave k.judged g.samples k.same_samples
 
   pub read : Read w (left_by w (read_wave f) r) rate channels g.samples words r.answer.read
-  unfolding code read_wave_of
+  unfolding call_judged read_wave_of
   read = subst (λ (m : ℕ). Read w (left_by w (read_wave f) r) rate m g.samples words r.answer.read) (sym (counts w f r a z two k.wave k.judged g.samples k.same_samples) ∙ k.same_channels) (record {
-    rated = ap (λ (b : ReadAnswer). b.read) a.0 ∙ rw (z, k.judged, k.same_rate) refl;
+    rated = ap (λ (b : ReadAnswer). b.read) a.0 ∙ rw (zero_unit (read_judged w.sampler (file_judged f) (length w.memory)) z, k.judged, k.same_rate) refl;
     recordings = λ j h. rw (t.head j h) (t.stored j h ∙ ap (channel_words w.sampler.count g.samples j) k.same_words);
     before = t.before;
     rest = t.rest;
@@ -304,18 +308,19 @@ module _ (w : World) (rate : ℕ) (out : List ℕ) (r : ListOutcome) (a : Allows
 
   back : (u : World) (q : ReadOutcome) → Allows (on u (read_wave (take (bytes_in w) r.lent))) q → code u (read_wave (take (bytes_in w) r.lent)) ≡ 0
       → length u.sampler.channels ≡ 2
-      → (q.answer.read.rate ≡ rate) × ((j : ℕ) → j < w.sampler.count → recording (left_by u (read_wave (take (bytes_in w) r.lent)) q) j ≡ recording w j)
+      → (q.answer.read ≡ Ok rate) × ((j : ℕ) → j < w.sampler.count → recording (left_by u (read_wave (take (bytes_in w) r.lent)) q) j ≡ recording w j)
   back u q b y two =
       let f = take (bytes_in w) r.lent in
       let c = read u f rate w.sampler.count there.words there.good q b y two in (
-        ap (λ (x : WaveRead). x.rate) c.rated,
+        c.rated,
         λ j h. c.recordings j h ∙ ap (λ (n : ℕ). channel_words w.sampler.count n j there.words) there.samples ∙ sym (there.recordings j h),
       )
 
 pub recordings : (w : World) → Recordings w
-unfolding code question_number write_number
+unfolding call_judged question_judged write_judged
 recordings w = record {
-  write_rows = λ rate out. refl;
+  write_rows = λ rate out.
+      code_row (not (good_with w.sampler (length w.memory))) Broken _ _ (code_row (any_recording w.sampler) Recording _ _ (code_row (lengths_differ w.sampler) OtherChannels _ _ (code_row (ltb (length out) (bytes_in w)) ShortList _ _ refl)));
   read_rows = read_rows w;
   bad_rows = bad_rows w;
   written = written w;

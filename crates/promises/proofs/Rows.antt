@@ -10,7 +10,8 @@ use lib.Dec.{leb, ltb, eqb}
 use lib.ListN.{take, get_or}
 use lib.Ieee.{Float, le, lt, of_int}
 use Rattle.binary32.specs.Leaves.{as_float, zero32, one32}
-use Rattle.walks.specs.Walks.{any}
+use Rattle.std.specs.List.{list_any}
+use Rattle.walks.proofs.Tests.{joined}
 use Rattle.walks.proofs.Lists.Every.{both}
 use Rattle.common_types.specs.declared.Params.{Params}
 use Rattle.common_types.specs.declared.Transport.{Transport}
@@ -27,7 +28,6 @@ use Rattle.sampler.specs.declared.Sampler.{Sampler}
 use Rattle.sampler.specs.Refusals.{channel_at, no_channel, bad_position, any_full}
 use Rattle.promises.specs.Broken.{In}
 use Rattle.promises.specs.Rows.{Beyond, Full, RowTests}
-use Rattle.promises.proofs.Broken.{join}
 
 -- ---- tests as facts
 pub either : (a b : Bool) → (a || b) ≡ true → (a ≡ true) ⊎ (b ≡ true)
@@ -40,22 +40,20 @@ one false b (inl h) = absurd (true≢false (sym h))
 one false b (inr h) = h
 
 -- one of the first n passes, where past the end stands one that doesn't
-any_front : {A : Type 0} (p : A → Bool) (d : A) (l : List A) (n : ℕ) → any p (take n l) ≡ true → (j : ℕ) × (j < n) × (p (get_or l j d) ≡ true)
-unfolding any
+any_front : {A : Type 0} (p : A → Bool) (d : A) (l : List A) (n : ℕ) → list_any p (take n l) ≡ true → (j : ℕ) × (j < n) × (p (get_or l j d) ≡ true)
 any_front p d l zero h = absurd (true≢false (sym h))
 any_front p d [] (suc n) h = absurd (true≢false (sym h))
-any_front p d (x ∷ l) (suc n) h = go (λ e. any_front p d l n e) (either (p x) (any p (take n l)) h)
+any_front p d (x ∷ l) (suc n) h = go (λ e. any_front p d l n e) (either (p x) (list_any p (take n l)) h)
   where
-    go : (any p (take n l) ≡ true → (j : ℕ) × (j < n) × (p (get_or l j d) ≡ true)) → (p x ≡ true) ⊎ (any p (take n l) ≡ true) → (j : ℕ) × (j < suc n) × (p (get_or (x ∷ l) j d) ≡ true)
+    go : (list_any p (take n l) ≡ true → (j : ℕ) × (j < n) × (p (get_or l j d) ≡ true)) → (p x ≡ true) ⊎ (list_any p (take n l) ≡ true) → (j : ℕ) × (j < suc n) × (p (get_or (x ∷ l) j d) ≡ true)
     go rest (inl e) = (0, omega arith, e)
     go rest (inr e) = let r = rest e in (suc r.0, omega arith, r.2)
 
-front_any : {A : Type 0} (p : A → Bool) (d : A) → p d ≡ false → (l : List A) (n j : ℕ) → j < n → p (get_or l j d) ≡ true → any p (take n l) ≡ true
-unfolding any
+front_any : {A : Type 0} (p : A → Bool) (d : A) → p d ≡ false → (l : List A) (n j : ℕ) → j < n → p (get_or l j d) ≡ true → list_any p (take n l) ≡ true
 front_any p d g [] n j k h = absurd (true≢false (sym h ∙ g))
 front_any p d g (x ∷ l) zero j k h = absurd (omega arith)
-front_any p d g (x ∷ l) (suc n) zero k h = one (p x) (any p (take n l)) (inl h)
-front_any p d g (x ∷ l) (suc n) (suc j) k h = one (p x) (any p (take n l)) (inr (front_any p d g l n j (omega arith) h))
+front_any p d g (x ∷ l) (suc n) zero k h = one (p x) (list_any p (take n l)) (inl h)
+front_any p d g (x ∷ l) (suc n) (suc j) k h = one (p x) (list_any p (take n l)) (inr (front_any p d g l n j (omega arith) h))
 
 -- ---- row 1
 no_channel_lem : (s : Sampler) (j : ℕ) → (no_channel s j ≡ true) ↔ (s.count ≤ j)
@@ -70,7 +68,7 @@ bad_position_lem x = (to, from)
     to h = both (le zero32 x) (le x one32) (not-false _ h)
 
     from : In 0 1 x → not (le zero32 x && le x one32) ≡ false
-    from h = rw (join (le zero32 x) (le x one32) h.0 h.1)
+    from h = rw (joined (le zero32 x) (le x one32) h.0 h.1)
 
 -- ---- row 4
 abbrev BeyondLength : TimeOrRatio → Transport → Type 0

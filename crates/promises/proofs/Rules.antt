@@ -6,6 +6,7 @@ use Prim.Native.Nat.{ℕ, ◌+◌, ◌*◌, ◌^◌}
 use lib.IntN.{pos, negsuc}
 use lib.ListN.{replicate, take}
 use lib.Ieee.{Float, nan, inf, fin, neg}
+use Rattle.std.specs.Prelude.{Ok, Err}
 use Rattle.binary32.specs.Leaves.{as_float, floor_of, min_of, max_of, abs_of, crossing_of, zero32, one32}
 use Rattle.common_types.specs.declared.Params.{Params}
 use Rattle.common_types.specs.declared.Note.{Note}
@@ -36,10 +37,8 @@ use Rattle.voice.specs.declared.Tick.{Tick}
 use Rattle.voice.specs.Voices.{moved_of}
 use Rattle.channel.specs.Channels.{live}
 use Rattle.questions.specs.declared.VoiceInfo.{VoiceInfo}
-use Rattle.questions.specs.declared.OffsetAnswer.TheVariants as offset
-use Rattle.questions.specs.declared.Told.TheVariants as told
-use Rattle.questions.specs.Questions.{answered, list_after, notes_of, active_notes_after, get_last_recorded_offset_of, is_recording_of, voice_info_of, figures_of, voice_infos_of, info_number, get_voice_info_of}
-use Rattle.recorder.specs.declared.LastOffset.TheVariants.{At, Nothing}
+use Rattle.questions.specs.Questions.{list_after, notes_of, active_notes_after, get_last_recorded_offset_of, is_recording_of, voice_info_of, figures_of, voice_infos_of, get_voice_info_of}
+use Rattle.std.specs.Prelude.{Some, None}
 use Rattle.recorder.specs.Recording.{last_recorded_offset_of, is_recording_of as records_of}
 use Rattle.promises.specs.Runs.{World, Call, start, stop, speed, start_recording, stop_recording, reset, sample, frame, code, after, run, chan, set_up, output}
 use Rattle.promises.proofs.Examples.{computing, half, two, plain, key, press, since}
@@ -471,7 +470,7 @@ abbrev third : Params
 third = set 0 0 false loop.Loop off.Decay (Ratio (fin false 11184811 (negsuc 23))) one32 one32
 
 abbrev infos_at : ℕ → List VoiceInfo
-infos_at j = take 2 (get_voice_info_of apart.sampler j third 2).infos
+infos_at j = elim (get_voice_info_of apart.sampler j third 2) [ Ok v ↦ take 2 v.infos | Err refusal ↦ [] ]
 
 abbrev info : Float → Float → Float → VoiceInfo
 info start end at = record { start = start; end = end; pos = at }
@@ -480,7 +479,7 @@ info start end at = record { start = start; end = end; pos = at }
 pub infos_told :
     (infos_at 0 ≡ info tenth (fin false 12862533 (negsuc 23)) (fin false 11184811 (negsuc 24)) ∷ info zero32 (fin false 11184811 (negsuc 23)) (fin false 11184811 (negsuc 24)) ∷ [])
     × (infos_at 1 ≡ info tenth (fin false 838861 (negsuc 22)) half ∷ info zero32 zero32 half ∷ [])
-unfolding computing answered voice_info_of figures_of voice_infos_of info_number get_voice_info_of
+unfolding computing voice_info_of figures_of voice_infos_of get_voice_info_of
 infos_told = (refl, refl)
 
 -- of the two voices the one that isn't finished
@@ -495,11 +494,11 @@ notes_listed = refl
 
 -- the write place is that of the next sample, and there is none while the recorder is idle
 pub recorder_told :
-    (get_last_recorded_offset_of (run (begun false) (start_recording ∷ takes half plain ∷ [])).sampler 0 ≡ offset.Done (At 1))
-    × (get_last_recorded_offset_of (holding (half ∷ [])).sampler 0 ≡ offset.Done Nothing)
-    × (is_recording_of (run (begun false) (start_recording ∷ [])).sampler 0 ≡ told.Done true)
-    × (is_recording_of (holding (half ∷ [])).sampler 0 ≡ told.Done false)
-unfolding computing answered last_recorded_offset_of records_of
+    (get_last_recorded_offset_of (run (begun false) (start_recording ∷ takes half plain ∷ [])).sampler 0 ≡ Ok (Some 1))
+    × (get_last_recorded_offset_of (holding (half ∷ [])).sampler 0 ≡ Ok None)
+    × (is_recording_of (run (begun false) (start_recording ∷ [])).sampler 0 ≡ Ok true)
+    × (is_recording_of (holding (half ∷ [])).sampler 0 ≡ Ok false)
+unfolding computing last_recorded_offset_of records_of
 recorder_told = (refl, refl, refl, refl)
 
 -- ==== memory: "Channel j owns the j-th part". Channel 0 recorded 0.5 and 1, and channel 1 1 and 0.5; a sample that doesn't record writes nothing

@@ -1,7 +1,7 @@
 -- What a run of frames answers and leaves: all as it was with 9, 10 and 4, every frame with 0, and with 6 what the run of the frames before the clock's end leaves. Assumes nothing.
 use mathlib.Core.Path.{◌≡◌, refl, sym, ap, ◌∙◌, subst}
 use mathlib.Core.Logic.{◌≢◌}
-use mathlib.Core.Bool.{true, false, not}
+use mathlib.Core.Bool.{true, false, not, ◌||◌}
 use mathlib.Core.List.{List, ◌++◌, append_assoc}
 use Prim.Native.Nat.{ℕ, zero, suc, ◌+◌, ◌*◌, ◌/◌, ◌%◌, ◌≤◌, ◌<◌, min}
 use native.Mathlib.Nat.{le_of_eq, suc-mul, div-add-mod', mul-div_left, mul-mod_left}
@@ -11,14 +11,18 @@ use lib.Dec.{eqb, ltb}
 use lib.ListN.{length, take, drop, length-drop, take-append-drop}
 use lib.Seq.{length-take-le, take-take, take-add, drop_at, drop-drop}
 use lib.Ieee.{Float}
+use Rattle.std.specs.Prelude.{Ok}
+use Rattle.refusals.specs.declared.Refusal.TheVariants.{BeyondLimits, ClockEnd, Broken, BadRun}
+use Rattle.refusals.specs.Refusals.{code_of}
+use Rattle.refusals.proofs.Codes.{passed}
 use Rattle.common_types.specs.declared.Params.{Params}
 use Rattle.common_types.specs.Settings.{beyond_limits}
 use Rattle.sampler.specs.declared.Sampler.{Sampler}
 use Rattle.sampler.specs.declared.Ran.{Ran}
-use Rattle.sampler.specs.Refusals.{good_with, frames_left, run_number, done_of}
+use Rattle.sampler.specs.Refusals.{good_with, frames_left, run_judged, run_number, done_of, begun}
 use Rattle.sampler.specs.Samplers.{Framed, framed, entries_of, frames_of, ran_of, run_answer}
-use Rattle.sampler.proofs.Rows.{passed, fitting}
-use Rattle.sampler.proofs.RunRows.{Begins, working, run_begins, done_turns}
+use Rattle.sampler.proofs.Rows.{fitting}
+use Rattle.sampler.proofs.RunRows.{Begins, run_begins, done_turns}
 use Rattle.sampler.proofs.Entries.{kept_entries}
 use Rattle.promises.specs.Runs.{World, frames_done}
 use Rattle.promises.specs.Outcomes.{along, RunOutcome, Allows, world_left_along}
@@ -81,9 +85,9 @@ frames_front p (suc k) n s xs m e h =
     (frames_front p k n (g p k n s xs m e h).sampler (drop n xs) (g p k n s xs m e h).memory (next_count p k n s xs m e h) (next_entries p k n s xs m e h))
 
 module _ (w : World) (xs : List Float) (p : Params) (r : RunOutcome) (allowed : Allows (along w xs p) r) where
-  number_is : r.answer.ran.number ≡ run_number w.sampler (length xs) p (length w.memory)
+  number_is : code_of r.answer.ran.done ≡ run_number w.sampler (length xs) p (length w.memory)
   unfolding run_answer
-  number_is = ap (λ (a : Ran). a.number) allowed.0
+  number_is = ap (λ (a : Ran). code_of a.done) allowed.0
 
   frames_is : r.answer.ran.frames ≡ frames_done w xs p
   unfolding run_answer
@@ -96,7 +100,7 @@ module _ (w : World) (xs : List Float) (p : Params) (r : RunOutcome) (allowed : 
   run_is : (f : Framed) → ran_of w.sampler xs p w.memory ≡ f → r.run ≡ f.frame
   run_is f e = allowed.1.frame ∙ ap (λ (g : Framed). g.frame) e
 
-  pub run_held : r.answer.ran.number ≢ 0 → r.answer.ran.number ≢ 6 → (r.answer.ran.frames ≡ 0) × (world_left_along r ≡ w) × (r.run ≡ xs)
+  pub run_held : code_of r.answer.ran.done ≢ 0 → code_of r.answer.ran.done ≢ 6 → (r.answer.ran.frames ≡ 0) × (world_left_along r ≡ w) × (r.run ≡ xs)
   unfolding ran_of frames_of done_of
   run_held a b =
       let z = run_number w.sampler (length xs) p (length w.memory) in
@@ -104,24 +108,24 @@ module _ (w : World) (xs : List Float) (p : Params) (r : RunOutcome) (allowed : 
       let e : ran_of w.sampler xs p w.memory ≡ framed w.sampler xs w.memory = ap (λ (k : ℕ). frames_of p k (framed w.sampler xs w.memory)) n in
       (frames_is ∙ n, left_is (framed w.sampler xs w.memory) e, run_is (framed w.sampler xs w.memory) e)
     where
-      nothing : working (run_number w.sampler (length xs) p (length w.memory)) ≡ false → frames_done w xs p ≡ 0
+      nothing : begun (run_judged w.sampler (length xs) p (length w.memory)) ≡ false → frames_done w xs p ≡ 0
       nothing e = rw e
 
-  pub run_done : r.answer.ran.number ≡ 0 → r.answer.ran.frames * w.sampler.count ≡ length xs
-  unfolding run_number done_of
+  pub run_done : code_of r.answer.ran.done ≡ 0 → r.answer.ran.frames * w.sampler.count ≡ length xs
+  unfolding run_judged done_of
   run_done z = ap (λ (k : ℕ). k * w.sampler.count) (frames_is ∙ all) ∙ div_exact
     where
       zero_is : run_number w.sampler (length xs) p (length w.memory) ≡ 0
       zero_is = sym number_is ∙ z
 
       begins : Begins w.sampler (length xs) p (length w.memory)
-      begins = run_begins w.sampler (length xs) p (length w.memory) (ap working zero_is)
+      begins = run_begins w.sampler (length xs) p (length w.memory) (ap (λ (n : ℕ). eqb n 0 || eqb n 6) zero_is)
 
       room : length xs / w.sampler.count ≤ frames_left w.sampler
       room =
           ltb-false (frames_left w.sampler) (length xs / w.sampler.count)
-          (passed (ltb (frames_left w.sampler) (length xs / w.sampler.count)) 5 0
-          (passed (beyond_limits p) 3 _ (passed (not (eqb (length xs % w.sampler.count) 0)) 9 _ (passed (not (good_with w.sampler (length w.memory))) 8 _ zero_is).1).1).1).0
+          (passed (ltb (frames_left w.sampler) (length xs / w.sampler.count)) ClockEnd (Ok tt)
+          (passed (beyond_limits p) BeyondLimits _ (passed (not (eqb (length xs % w.sampler.count) 0)) BadRun _ (passed (not (good_with w.sampler (length w.memory))) Broken _ zero_is).1).1).1).0
 
       short : (a b : ℕ) → a ≤ b → min a b ≡ a
       short a b h = omega arith
@@ -132,7 +136,7 @@ module _ (w : World) (xs : List Float) (p : Params) (r : RunOutcome) (allowed : 
       div_exact : length xs / w.sampler.count * w.sampler.count ≡ length xs
       div_exact = omega (arith, div-add-mod' (length xs) w.sampler.count, begins.whole)
 
-  module _ (six : r.answer.ran.number ≡ 6) where
+  module _ (six : code_of r.answer.ran.done ≡ 6) where
     six_is : run_number w.sampler (length xs) p (length w.memory) ≡ 6
     six_is = sym number_is ∙ six
 
@@ -155,7 +159,7 @@ module _ (w : World) (xs : List Float) (p : Params) (r : RunOutcome) (allowed : 
     asked = ap (λ (a : ℕ). a / w.sampler.count) fewer_long ∙ mul-div_left (frames_done w xs p) some
 
     number_zero : run_number w.sampler (length fewer) p (length w.memory) ≡ 0
-    unfolding run_number
+    unfolding run_judged
     number_zero =
         let whole : eqb (length fewer % w.sampler.count) 0 ≡ true = eq-eqb (length fewer % w.sampler.count) 0 (ap (λ (a : ℕ). a % w.sampler.count) fewer_long ∙ mul-mod_left (frames_done w xs p) w.sampler.count) in
         let room : ltb (frames_left w.sampler) (length fewer / w.sampler.count) ≡ false = le-ltb (frames_left w.sampler) (length fewer / w.sampler.count) (le_of_eq (asked ∙ all_room w xs p six_is)) in
@@ -177,9 +181,9 @@ module _ (w : World) (xs : List Float) (p : Params) (r : RunOutcome) (allowed : 
 abbrev Ends : (w : World) (xs : List Float) (p : Params) (r : RunOutcome) → ℕ → Type 0
 Ends w xs p r done =
     (q : RunOutcome) → Allows (along w (take done xs) p) q
-    → (q.answer.ran.number ≡ 0) × (q.answer.ran.frames ≡ r.answer.ran.frames) × (world_left_along r ≡ world_left_along q) × (r.run ≡ q.run ++ drop done xs)
+    → (code_of q.answer.ran.done ≡ 0) × (q.answer.ran.frames ≡ r.answer.ran.frames) × (world_left_along r ≡ world_left_along q) × (r.run ≡ q.run ++ drop done xs)
 
-pub run_ends : (w : World) (xs : List Float) (p : Params) (r : RunOutcome) → Allows (along w xs p) r → r.answer.ran.number ≡ 6
+pub run_ends : (w : World) (xs : List Float) (p : Params) (r : RunOutcome) → Allows (along w xs p) r → code_of r.answer.ran.done ≡ 6
     → (done : ℕ) → done ≡ r.answer.ran.frames * w.sampler.count → Ends w xs p r done
 run_ends w xs p r h six done is =
     subst (Ends w xs p r) (sym (is ∙ ap (λ (k : ℕ). k * w.sampler.count) (frames_is w xs p r h)))

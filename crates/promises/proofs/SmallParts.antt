@@ -13,24 +13,19 @@ use lib.Ieee.Fits.{down_pos}
 use Rattle.binary32.specs.Leaves.{as_float, as_whole, floor_of, zero32}
 use Rattle.binary32.proofs.Truth.{same_test}
 use Rattle.binary32.proofs.Values.{le_value}
+use Rattle.std.specs.Prelude.{Err}
+use Rattle.refusals.specs.Refusals.{code_of}
+use Rattle.refusals.specs.declared.Refusal.TheVariants.{BadArgument}
 use Rattle.common_types.specs.Modes.{index_from_f32_of}
 use Rattle.common_types.proofs.Indices.{loop_mode_number_lem, note_off_number_lem}
 use Rattle.volume.specs.declared.Volume.{Volume}
 use Rattle.volume.specs.declared.Volume.TheVariants.{Static, Linear}
-use Rattle.volume.specs.declared.LevelAnswer.TheVariants as level
-use Rattle.volume.specs.declared.VolumeAnswer.TheVariants as volume
-use Rattle.volume.specs.Levels.{level_number, volume_number, good_ramp, good_volume, level_refused_at as unread_at, value_answer, to_of, step_answer}
+use Rattle.volume.specs.Levels.{good_ramp, good_volume, level_refused_at as unread_at, value_answer, to_of, step_answer}
 use Rattle.clip.specs.declared.Clip.{Clip}
 use Rattle.clip.specs.declared.Mode.{Mode}
-use Rattle.clip.specs.declared.ClipAnswer.TheVariants as clip
-use Rattle.clip.specs.declared.FoundAnswer.TheVariants as found
-use Rattle.clip.specs.declared.PlaceAnswer.TheVariants as place
-use Rattle.clip.specs.declared.PositionAnswer.TheVariants as position
-use Rattle.clip.specs.declared.ElapsedAnswer.TheVariants as elapsed
-use Rattle.clip.specs.declared.ReversingAnswer.TheVariants as reversing
-use Rattle.clip.specs.Refusals.{most32, good_length, good_clip, clip_refused_at, clip_number, found_number, place_number, position_number, elapsed_number, reversing_number, new_clip_of, data_to_clip_of, is_pingpong_reversing_of, elapsed_of, clip_offset_of, offset_of, update_speed_of, update_mode_of, update_length_of, update_data_length_of, update_all_of}
+use Rattle.clip.specs.Refusals.{most32, good_length, good_clip, clip_refused_at, new_clip_of, data_to_clip_of, is_pingpong_reversing_of, elapsed_of, clip_offset_of, offset_of, update_speed_of, update_mode_of, update_length_of, update_data_length_of, update_all_of}
 use Rattle.clip.specs.Updates.{made_of}
-use Rattle.sampler.specs.Refusals.{row}
+use Rattle.promises.specs.Runs.{row}
 use Rattle.promises.specs.SmallParts.{not_in, bad_sizes, bad_clip, bad_at, bad_time, RowSeven}
 
 -- ---- the number of an answer that a test picks
@@ -153,24 +148,24 @@ from_three i = swapped (ltb i 3) 0 7 ∙ ap (λ (t : Bool). row t 7 0) (not-lt i
 pub row_seven : RowSeven
 unfolding value_answer to_of step_answer new_clip_of data_to_clip_of is_pingpong_reversing_of elapsed_of clip_offset_of offset_of update_speed_of update_mode_of update_length_of update_data_length_of update_all_of
 row_seven = record {
-  value = λ v now. refusal level_number level.Refused _ refl refl (unread_at v now) (bad_time v now) (volume_bad v now);
-  to = λ v now duration target. refusal volume_number volume.Refused _ refl refl (unread_at v now || ltb (2 ^ 24) duration) (bad_time v now || ltb (2 ^ 24) duration) (ap (λ (t : Bool). t || ltb (2 ^ 24) duration) (volume_bad v now));
-  step = λ v now. refusal volume_number volume.Refused _ refl refl (unread_at v now) (bad_time v now) (volume_bad v now);
+  value = λ v now. refusal code_of (Err BadArgument) _ refl refl (unread_at v now) (bad_time v now) (volume_bad v now);
+  to = λ v now duration target. refusal code_of (Err BadArgument) _ refl refl (unread_at v now || ltb (2 ^ 24) duration) (bad_time v now || ltb (2 ^ 24) duration) (ap (λ (t : Bool). t || ltb (2 ^ 24) duration) (volume_bad v now));
+  step = λ v now. refusal code_of (Err BadArgument) _ refl refl (unread_at v now) (bad_time v now) (volume_bad v now);
   loop_mode_index = λ i. loop_mode_number_lem i ∙ from_three i;
   note_off_index = λ i. note_off_number_lem i ∙ from_three i;
   loop_mode_float = λ x. loop_mode_number_lem (index_from_f32_of x 3) ∙ from_three (index_from_f32_of x 3) ∙ ap (λ (t : Bool). row t 7 0) (index_number x);
   note_off_float = λ x. note_off_number_lem (index_from_f32_of x 3) ∙ from_three (index_from_f32_of x 3) ∙ ap (λ (t : Bool). row t 7 0) (index_number x);
-  new = λ since start speed length data_length mode. refusal clip_number clip.Refused _ refl refl (clip_refused_at (made_of since start speed length data_length mode) since) _ (made_bad since start speed length data_length mode);
-  data_to_clip = λ c x. ap found_number (swapped (good_clip c && (le zero32 x && lt x c.data_length)) _ found.Refused)
-      ∙ refusal found_number found.Refused _ refl refl (not (good_clip c && (le zero32 x && lt x c.data_length))) _ (place_bad c x);
-  is_pingpong_reversing = λ c now. refusal reversing_number reversing.Refused _ refl refl (clip_refused_at c now) (bad_at c now) (clip_bad_at c now);
-  elapsed = λ c now. refusal elapsed_number elapsed.Refused _ refl refl (clip_refused_at c now) (bad_at c now) (clip_bad_at c now);
-  clip_offset = λ c now. refusal place_number place.Refused _ refl refl (clip_refused_at c now) (bad_at c now) (clip_bad_at c now);
-  offset = λ c now. refusal position_number position.Refused _ refl refl (clip_refused_at c now) (bad_at c now) (clip_bad_at c now);
-  update_speed = λ c now speed. refusal clip_number clip.Refused _ refl refl (clip_refused_at c now) (bad_at c now) (clip_bad_at c now);
-  update_mode = λ c now mode. refusal clip_number clip.Refused _ refl refl (clip_refused_at c now) (bad_at c now) (clip_bad_at c now);
-  update_length = λ c now length. refusal clip_number clip.Refused _ refl refl (clip_refused_at c now || not (good_length length)) _ (length_bad c now length);
-  update_data_length = λ c now length. refusal clip_number clip.Refused _ refl refl (clip_refused_at c now || not (good_length length)) _ (length_bad c now length);
+  new = λ since start speed length data_length mode. refusal code_of (Err BadArgument) _ refl refl (clip_refused_at (made_of since start speed length data_length mode) since) _ (made_bad since start speed length data_length mode);
+  data_to_clip = λ c x. ap code_of (swapped (good_clip c && (le zero32 x && lt x c.data_length)) _ (Err BadArgument))
+      ∙ refusal code_of (Err BadArgument) _ refl refl (not (good_clip c && (le zero32 x && lt x c.data_length))) _ (place_bad c x);
+  is_pingpong_reversing = λ c now. refusal code_of (Err BadArgument) _ refl refl (clip_refused_at c now) (bad_at c now) (clip_bad_at c now);
+  elapsed = λ c now. refusal code_of (Err BadArgument) _ refl refl (clip_refused_at c now) (bad_at c now) (clip_bad_at c now);
+  clip_offset = λ c now. refusal code_of (Err BadArgument) _ refl refl (clip_refused_at c now) (bad_at c now) (clip_bad_at c now);
+  offset = λ c now. refusal code_of (Err BadArgument) _ refl refl (clip_refused_at c now) (bad_at c now) (clip_bad_at c now);
+  update_speed = λ c now speed. refusal code_of (Err BadArgument) _ refl refl (clip_refused_at c now) (bad_at c now) (clip_bad_at c now);
+  update_mode = λ c now mode. refusal code_of (Err BadArgument) _ refl refl (clip_refused_at c now) (bad_at c now) (clip_bad_at c now);
+  update_length = λ c now length. refusal code_of (Err BadArgument) _ refl refl (clip_refused_at c now || not (good_length length)) _ (length_bad c now length);
+  update_data_length = λ c now length. refusal code_of (Err BadArgument) _ refl refl (clip_refused_at c now || not (good_length length)) _ (length_bad c now length);
   update_all = λ c now length speed data_length mode.
-      refusal clip_number clip.Refused _ refl refl (clip_refused_at c now || not (good_length length) || not (good_length data_length)) _ (lengths_bad c now length data_length);
+      refusal code_of (Err BadArgument) _ refl refl (clip_refused_at c now || not (good_length length) || not (good_length data_length)) _ (lengths_bad c now length data_length);
 }

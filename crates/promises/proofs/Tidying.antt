@@ -7,11 +7,14 @@ use mathlib.Core.Option.{Option, some}
 use Prim.Native.Nat.{ℕ, zero, suc, ◌+◌, ◌*◌, ◌≤◌, ◌<◌, zero-le}
 use native.Mathlib.Nat.{le_trans, le_of_eq, le_refl, zero-add}
 use native.Mathlib.Omega.{arith}
-use borrow.Author.Tests.{lt-ltb, le-ltb, ltb-true, ltb-false, eq-eqb, ne_eqb, eqb-true}
+use borrow.Author.Tests.{lt-ltb, le-ltb, ltb-true, ltb-false, eq-eqb}
 use lib.Dec.{eqb, ltb, leb}
 use lib.ListN.{length, take, get_or, get_elem?, length-map}
 use lib.Seq.{length-take-le, take_all}
 use lib.Ieee.{Float, binary32, mul}
+use Rattle.std.specs.Prelude.{is_ok}
+use Rattle.refusals.specs.declared.Refusal.TheVariants.{Broken}
+use Rattle.refusals.proofs.Codes.{done_at, zero_at, passed, refused_at}
 use Rattle.binary32.specs.Leaves.{zero32}
 use Rattle.common_types.specs.declared.Params.{Params}
 use Rattle.walks.specs.Walks.{without, behind}
@@ -27,9 +30,9 @@ use Rattle.channel.specs.Channels.{process_sample_of as channel_sample_of}
 use Rattle.channel.proofs.Samples.{moved_few}
 use Rattle.sampler.specs.declared.Sampler.{Sampler}
 use Rattle.sampler.specs.declared.SampleAnswer.{SampleAnswer}
-use Rattle.sampler.specs.Refusals.{channel_at, good_sampler, good_with, sample_number, frame_number}
+use Rattle.sampler.specs.Refusals.{channel_at, good_sampler, good_with, sample_judged, sample_number, frame_judged, frame_number}
 use Rattle.sampler.specs.Samplers.{part_of, played_at, moved_at, process_sample_of, framed, entries_moved, frame_moved}
-use Rattle.sampler.proofs.Rows.{passed, is_true, frame_steps}
+use Rattle.sampler.proofs.Rows.{is_true, frame_steps}
 use Rattle.sampler.proofs.Entries.{sample_reaches, frame_reaches}
 use Rattle.fates.specs.Engine.{turns_in}
 use Rattle.fates.specs.Events.{Event, idle, changes, gathers, sounds, act, is_reset, empty_at}
@@ -37,7 +40,7 @@ use Rattle.fates.specs.Places.{Place, at, gone, voice_at, fate_of, follow}
 use Rattle.fates.proofs.Own.{own_leaves, step_moved, step_output}
 use Rattle.fates.proofs.Lives.{live_sounded}
 use Rattle.fates.proofs.Tracks.{at_same, gone_never}
-use Rattle.promises.specs.Runs.{World, Call, sample, frame, code, chan, own_part, done_to, event}
+use Rattle.promises.specs.Runs.{World, Call, sample, frame, call_judged, code, chan, own_part, done_to, event}
 use Rattle.promises.specs.Tidies.{moves_up, up_of, up_in, sum_from, remove_at, places_of, taken_away}
 use Rattle.promises.specs.Demands.{Tidying, all_turned, OldRemoval}
 use Rattle.promises.proofs.Calls.{Standing}
@@ -335,12 +338,12 @@ unfolding good_with
 live_few s size g j h = few_live s j (both (good_sampler s) (leb (s.count * s.capacity) size) g).0 h
 
 sample_good : (s : Sampler) (j : ℕ) (p : Params) (size : ℕ) → sample_number s j p size ≡ 0 → good_with s size ≡ true
-unfolding sample_number
-sample_good s j p size h = is_true (good_with s size) (passed (not (good_with s size)) 8 _ h).0
+unfolding sample_judged
+sample_good s j p size h = is_true (good_with s size) (passed (not (good_with s size)) Broken _ h).0
 
 frame_good : (s : Sampler) (n : ℕ) (p : Params) (size : ℕ) → frame_number s n p size ≡ 0 → good_with s size ≡ true
-unfolding frame_number
-frame_good s n p size h = is_true (good_with s size) (passed (not (good_with s size)) 8 _ h).0
+unfolding frame_judged
+frame_good s n p size h = is_true (good_with s size) (passed (not (good_with s size)) Broken _ h).0
 
 module _ (w : World) where
   abbrev s : Sampler
@@ -357,8 +360,8 @@ module _ (w : World) where
   own_few p x j g h = moved_few p x (channel_at s j) (part_of s j mem) (live_few s (length mem) g j h)
 
   sample_up : (j : ℕ) (x : Float) (p : Params) → (process_sample_of s j x p mem).moved ≡ up_in w (sample j x p) j
-  unfolding process_sample_of moved_at played_at event code done_to
-  sample_up j x p = go (eqb (sample_number s j p (length mem)) 0) (eqb j j) (eq-eqb j j refl)
+  unfolding process_sample_of moved_at played_at event call_judged done_to
+  sample_up j x p = go (is_ok (sample_judged s j p (length mem))) (eqb j j) (eq-eqb j j refl)
     where
       go : (a b : Bool) → b ≡ true → cond a (own p x j) 0 ≡ up_of (follow (cond a (cond b (sounds p x (own_part w j)) idle) idle) (chan w j)) (length (live (chan w j)))
       go false b e = sym (idle_up (chan w j) (length (live (chan w j))))
@@ -367,12 +370,12 @@ module _ (w : World) where
 
   sample_few : (j : ℕ) (x : Float) (p : Params) → (process_sample_of s j x p mem).moved ≤ 31
   unfolding process_sample_of moved_at played_at
-  sample_few j x p = go (eqb (sample_number s j p (length mem)) 0) refl
+  sample_few j x p = go (is_ok (sample_judged s j p (length mem))) refl
     where
-      go : (a : Bool) → eqb (sample_number s j p (length mem)) 0 ≡ a → cond a (own p x j) 0 ≤ 31
+      go : (a : Bool) → is_ok (sample_judged s j p (length mem)) ≡ a → cond a (own p x j) 0 ≤ 31
       go false e = zero-le
       go true e =
-          let z = eqb-true (sample_number s j p (length mem)) 0 e in
+          let z = zero_at (sample_judged s j p (length mem)) e in
           own_few p x j (sample_good s j p (length mem) z) (sample_reaches s p (length mem) j z).0.below
 
   module _ (xs : List Float) (p : Params) where
@@ -382,42 +385,42 @@ module _ (w : World) where
     accepted_sum : frame_number s (length xs) p (length mem) ≡ 0 → frame_moved s xs p mem ≡ sum_from each (length xs) 0
     unfolding frame_moved
     accepted_sum z =
-        ap (λ (b : Bool). cond b (entries_moved p (length xs) 0 (framed s xs mem)) 0) (eq-eqb _ _ z) ∙ frame_moved_lem s xs p mem (frame_steps s (length xs) p (length mem) z)
+        ap (λ (b : Bool). cond b (entries_moved p (length xs) 0 (framed s xs mem)) 0) (done_at (frame_judged s (length xs) p (length mem)) z) ∙ frame_moved_lem s xs p mem (frame_steps s (length xs) p (length mem) z)
 
-    refused_sum : eqb (frame_number s (length xs) p (length mem)) 0 ≡ false → frame_moved s xs p mem ≡ 0
+    refused_sum : is_ok (frame_judged s (length xs) p (length mem)) ≡ false → frame_moved s xs p mem ≡ 0
     unfolding frame_moved
     refused_sum e = ap (λ (b : Bool). cond b (entries_moved p (length xs) 0 (framed s xs mem)) 0) e
 
     frame_up : frame_moved s xs p mem ≡ sum_from (up_in w (frame xs p)) (length xs) 0
-    unfolding event code done_to
-    frame_up = go (eqb (frame_number s (length xs) p (length mem)) 0) refl
+    unfolding event call_judged done_to
+    frame_up = go (is_ok (frame_judged s (length xs) p (length mem))) refl
       where
         here : (j : ℕ) (b : Bool) → b ≡ true → each j ≡ up_of (follow (cond b (sounds p (get_or xs j zero32) (own_part w j)) idle) (chan w j)) (length (live (chan w j)))
         here j true e = sym (sounds_up p (get_or xs j zero32) (own_part w j) (chan w j))
         here j false e = absurd (true≢false (sym e))
 
-        go : (a : Bool) → eqb (frame_number s (length xs) p (length mem)) 0 ≡ a
+        go : (a : Bool) → is_ok (frame_judged s (length xs) p (length mem)) ≡ a
             → frame_moved s xs p mem ≡ sum_from (λ (j : ℕ). up_of (follow (cond a (cond (ltb j (length xs)) (sounds p (get_or xs j zero32) (own_part w j)) idle) idle) (chan w j)) (length (live (chan w j)))) (length xs) 0
         go false e = refused_sum e ∙ sym (sum_none (length xs) 0) ∙ sum_same _ _ (length xs) 0 (λ j k. sym (idle_up (chan w j) (length (live (chan w j)))))
-        go true e = accepted_sum (eqb-true _ 0 e) ∙ sum_same _ _ (length xs) 0 (λ j k. here j (ltb j (length xs)) (lt-ltb j (length xs) (omega (arith, zero-add (length xs)))))
+        go true e = accepted_sum (zero_at _ e) ∙ sum_same _ _ (length xs) 0 (λ j k. here j (ltb j (length xs)) (lt-ltb j (length xs) (omega (arith, zero-add (length xs)))))
 
     frame_few : frame_moved s xs p mem ≤ 62
-    frame_few = go (eqb (frame_number s (length xs) p (length mem)) 0) refl
+    frame_few = go (is_ok (frame_judged s (length xs) p (length mem))) refl
       where
-        go : (a : Bool) → eqb (frame_number s (length xs) p (length mem)) 0 ≡ a → frame_moved s xs p mem ≤ 62
+        go : (a : Bool) → is_ok (frame_judged s (length xs) p (length mem)) ≡ a → frame_moved s xs p mem ≤ 62
         go false e = le_trans (le_of_eq (refused_sum e)) zero-le
         go true e =
-            let z = eqb-true (frame_number s (length xs) p (length mem)) 0 e in
+            let z = zero_at (frame_judged s (length xs) p (length mem)) e in
             let few = sum_few each (length xs) 0 (λ j k. own_few p (get_or xs j zero32) j (frame_good s (length xs) p (length mem) z) (le_trans k (le_trans (le_of_eq (zero-add (length xs))) (frame_reaches s p (length mem) (length xs) z).0))) in
             omega (arith, few, accepted_sum z, (frame_steps s (length xs) p (length mem) z).below)
 
   refused_none : (c : Call) → code w c ≢ 0 → (j : ℕ) → up_in w c j ≡ 0
   unfolding event
-  refused_none c n j = ap (λ (b : Bool). up_of (follow (cond b (done_to w c j) idle) (chan w j)) (length (live (chan w j)))) (ne_eqb (code w c) 0 n) ∙ idle_up (chan w j) (length (live (chan w j)))
+  refused_none c n j = ap (λ (b : Bool). up_of (follow (cond b (done_to w c j) idle) (chan w j)) (length (live (chan w j)))) (refused_at (call_judged w c) n) ∙ idle_up (chan w j) (length (live (chan w j)))
 
   empty_none : (j : ℕ) (x : Float) (p : Params) → ((n : ℕ) (v : Voice) → voice_at (chan w j) n ≡ some v → empty_at (own_part w j) (chan w j) v ≡ true) → up_in w (sample j x p) j ≡ 0
   unfolding event done_to
-  empty_none j x p e = go (eqb (code w (sample j x p)) 0) (eqb j j)
+  empty_none j x p e = go (is_ok (call_judged w (sample j x p))) (eqb j j)
     where
       go : (a b : Bool) → up_of (follow (cond a (cond b (sounds p x (own_part w j)) idle) idle) (chan w j)) (length (live (chan w j))) ≡ 0
       go false b = idle_up (chan w j) (length (live (chan w j)))
@@ -426,7 +429,7 @@ module _ (w : World) where
 
 -- ---- all of it
 pub tidying : (w : World) → Tidying w
-unfolding code
+unfolding call_judged
 tidying w = record {
   kept_behind = λ j x p r h. ap (λ (a : SampleAnswer). a.moved) h.0 ∙ sample_up w j x p;
   behind_first = λ c j n k v e h. event_first (event w c j) (chan w j) n k v e h;

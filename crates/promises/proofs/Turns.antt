@@ -1,17 +1,22 @@
 -- A run of frames is its frame calls, one after the other: testing record, memory and parameters once equals testing them at each frame. Assumes nothing.
 use mathlib.Core.Path.{◌≡◌, refl, sym, ap, ◌∙◌, subst}
 use mathlib.Core.Logic.{◌⊎◌, inl, inr}
-use mathlib.Core.Bool.{Bool, true, false, not, cond}
+use mathlib.Core.Bool.{Bool, true, false, not, cond, ◌||◌}
 use mathlib.Core.List.{List, [], ◌∷◌, ◌++◌, append_assoc}
 use Prim.Native.Nat.{ℕ, zero, suc, ◌+◌, ◌-◌, ◌*◌, ◌/◌, ◌%◌, ◌≤◌, ◌<◌, min, max, zero-le}
 use native.Mathlib.Nat.{le_refl, le_trans, le_of_eq, suc-mul, zero-mul, zero-add, min-le_right}
 use native.Mathlib.Omega.{arith}
-use borrow.Author.Tests.{leb-false, ltb-true, lt-leb, lt-ltb, le-ltb, eq-eqb}
+use borrow.Author.Tests.{leb-false, ltb-true, lt-leb, lt-ltb, le-ltb}
 use lib.Dec.{leb, ltb, eqb}
 use lib.ListN.{length, take, drop, get_or, length-drop}
 use lib.Seq.{length-take-le, get_or-take, drop-drop}
 use lib.Ieee.{Float}
-use Rattle.walks.specs.Walks.{any, fold}
+use Rattle.std.specs.List.{list_any, fold}
+use Rattle.std.specs.Prelude.{Result, Ok}
+use Rattle.refusals.specs.declared.Refusal.{Refusal}
+use Rattle.refusals.specs.declared.Refusal.TheVariants.{BeyondLimits, ClockEnd, Broken, BadRun}
+use Rattle.refusals.specs.Refusals.{code_of, row}
+use Rattle.refusals.proofs.Codes.{done_at, coded}
 use Rattle.walks.proofs.Lists.Every.{both}
 use Rattle.binary32.specs.Leaves.{zero32}
 use Rattle.binary32.proofs.Truth.{no}
@@ -24,18 +29,18 @@ use Rattle.channel.specs.Channels.{channel_of}
 use Rattle.channel.specs.Channels.{process_sample_of as channel_sample_of}
 use Rattle.channel.proofs.Parts.{parts}
 use Rattle.sampler.specs.declared.Sampler.{Sampler}
-use Rattle.sampler.specs.Refusals.{present, channel_at, good_sampler, good_with, at_end, later_of, latest_of, frames_left, frame_number, run_number, done_of}
+use Rattle.sampler.specs.Refusals.{present, channel_at, good_sampler, good_with, at_end, later_of, latest_of, frames_left, frame_judged, run_judged, run_number, done_of, begun}
 use Rattle.sampler.specs.Samplers.{Steps, Turns, part_of, Framed, framed, entry_of, entries_of, framed_of, frames_of, ran_of}
 use Rattle.sampler.specs.Soundness.{FittingSampler, SoundSampler}
 use Rattle.sampler.proofs.Rows.{fitting}
-use Rattle.sampler.proofs.RunRows.{working, run_begins, done_turns}
+use Rattle.sampler.proofs.RunRows.{run_begins, done_turns}
 use Rattle.sampler.proofs.Entries.{Kept, kept_refl, kept_trans, kept_entries, memory_at_length, entries_keep}
 use Rattle.sampler.proofs.Kept.{channel_sound, frame_kept}
 use Rattle.fates.specs.Events.{sounds, act}
 use Rattle.fates.specs.Places.{Housed}
 use Rattle.fates.proofs.Clocks.{clock_moves}
 use Rattle.fates.proofs.Housing.{housed}
-use Rattle.promises.specs.Runs.{World, frame, code, after, run, chan, own_part, done_to, event, Made, one, frames, frames_done, frame_calls, spread, made, makes, played_in, played_by, Accepted}
+use Rattle.promises.specs.Runs.{World, frame, call_judged, code, after, run, chan, own_part, done_to, event, Made, one, frames, frames_done, frame_calls, spread, made, makes, played_in, played_by, Accepted}
 use Rattle.promises.specs.Demands.{InTurn}
 use Rattle.promises.proofs.Apart.{frame_channel}
 use Rattle.promises.proofs.Calls.{Standing, chan_after, kept, kept_run, standing_after}
@@ -48,17 +53,14 @@ abbrev none : Channel
 none = channel_of (record { auto_passthru = false })
 
 latest_most : (b t : ℕ) (cs : List Channel) → t ≤ b → ((j : ℕ) → j < length cs → (get_or cs j none).head.now ≤ b) → fold later_of t cs ≤ b
-unfolding fold
 latest_most b t [] h k = h
 latest_most b t (c ∷ cs) h k = latest_most b (max t c.head.now) cs (omega (arith, k 0 (omega arith))) (λ j q. k (suc j) (omega arith))
 
 latest_from : (t : ℕ) (cs : List Channel) → t ≤ fold later_of t cs
-unfolding fold
 latest_from t [] = le_refl t
 latest_from t (c ∷ cs) = omega (arith, latest_from (max t c.head.now) cs)
 
 latest_at : (t : ℕ) (cs : List Channel) (j : ℕ) → j < length cs → (get_or cs j none).head.now ≤ fold later_of t cs
-unfolding fold
 latest_at t [] j h = absurd (omega arith)
 latest_at t (c ∷ cs) zero h = omega (arith, latest_from (max t c.head.now) cs)
 latest_at t (c ∷ cs) (suc j) h = latest_at (max t c.head.now) cs j (omega arith)
@@ -88,23 +90,23 @@ module _ (w : World) (st : Standing w) where
   unfolding frames_left latest
   early h j k = omega (arith, at_least j k)
 
-  none_at_end : 0 < frames_left w.sampler → any at_end (present w.sampler) ≡ false
+  none_at_end : 0 < frames_left w.sampler → list_any at_end (present w.sampler) ≡ false
   none_at_end h =
       any_none at_end (present w.sampler) none
       (λ j k. ap at_end (get_or-take w.sampler.count w.sampler.channels j none (omega (arith, in_use))) ∙ lt-leb last_time (chan w j).head.now (early h j (omega (arith, in_use))))
 
   -- no room: some clock does
-  some_at_end : frames_left w.sampler ≡ 0 → any at_end (present w.sampler) ≡ true
+  some_at_end : frames_left w.sampler ≡ 0 → list_any at_end (present w.sampler) ≡ true
   unfolding frames_left latest
-  some_at_end h = go (any at_end (present w.sampler)) refl
+  some_at_end h = go (list_any at_end (present w.sampler)) refl
     where
-      below : any at_end (present w.sampler) ≡ false → (j : ℕ) → j < w.sampler.count → (chan w j).head.now ≤ last_time - 1
+      below : list_any at_end (present w.sampler) ≡ false → (j : ℕ) → j < w.sampler.count → (chan w j).head.now ≤ last_time - 1
       below e j k =
           let b : (chan w j).head.now < last_time
           = leb-false last_time (chan w j).head.now (ap at_end (sym (get_or-take w.sampler.count w.sampler.channels j none k)) ∙ any_at at_end (present w.sampler) j none e (omega (arith, in_use))) in
           omega arith
 
-      go : (b : Bool) → any at_end (present w.sampler) ≡ b → b ≡ true
+      go : (b : Bool) → list_any at_end (present w.sampler) ≡ b → b ≡ true
       go true e = refl
       go false e = absurd (omega (arith, at_most (last_time - 1) (below e)))
 
@@ -117,12 +119,12 @@ record Open (w : World) (p : Params) : Type 0 where
   floats : FittingParams p
 
 module _ (w : World) (p : Params) (o : Open w p) (xs : List Float) (n : length xs ≡ w.sampler.count) where
-  rows : (b : Bool) → any at_end (present w.sampler) ≡ b → code w (frame xs p) ≡ cond b 6 0
-  unfolding code frame_number
+  rows : (b : Bool) → list_any at_end (present w.sampler) ≡ b → code w (frame xs p) ≡ cond b 6 0
+  unfolding call_judged frame_judged
   rows b e =
       let few : ltb w.sampler.count (length xs) ≡ false = le-ltb w.sampler.count (length xs) (le_of_eq n) in
-      let ends : any at_end (take (length xs) w.sampler.channels) ≡ b = ap (λ (k : ℕ). any at_end (take k w.sampler.channels)) n ∙ e in
-      rw (o.good, few, o.within, ends)
+      let ends : list_any at_end (take (length xs) w.sampler.channels) ≡ b = ap (λ (k : ℕ). list_any at_end (take k w.sampler.channels)) n ∙ e in
+      rw (o.good, few, o.within, ends) (coded b ClockEnd (Ok tt))
 
   refused : frames_left w.sampler ≡ 0 → code w (frame xs p) ≡ 6
   refused z = rows true (some_at_end w o.standing z)
@@ -135,8 +137,8 @@ module _ (w : World) (p : Params) (o : Open w p) (xs : List Float) (n : length x
     on = after w (frame xs p)
 
     framed_is : framed_of w.sampler xs p w.memory ≡ entries_of p (length xs) 0 (framed w.sampler xs w.memory)
-    unfolding framed_of code
-    framed_is = rw (eq-eqb (code w (frame xs p)) 0 accepted)
+    unfolding framed_of call_judged
+    framed_is = rw (done_at (call_judged w (frame xs p)) accepted)
 
     same_count : on.sampler.count ≡ w.sampler.count
     same_count = (kept w (frame xs p)).count
@@ -146,7 +148,7 @@ module _ (w : World) (p : Params) (o : Open w p) (xs : List Float) (n : length x
 
     sounded : (j : ℕ) → j < w.sampler.count → event w (frame xs p) j ≡ sounds p (get_or xs j zero32) (own_part w j)
     unfolding event done_to
-    sounded j k = rw (eq-eqb (code w (frame xs p)) 0 accepted, lt-ltb j (length xs) (omega (arith, n)))
+    sounded j k = rw (done_at (call_judged w (frame xs p)) accepted, lt-ltb j (length xs) (omega (arith, n)))
 
     clock_on : (j : ℕ) → j < w.sampler.count → (chan on j).head.now ≡ (chan w j).head.now + 1
     clock_on j k =
@@ -275,7 +277,7 @@ frames_done_lem p n (suc k) w xs e o h l =
     (frames_done_lem p n k (next p n k w xs e o h l) (drop n xs) (next_count p n k w xs e o h l) (next_open p n k w xs e o h l) (next_room p n k w xs e o h l) (next_entries p n k w xs e o h l))
 
 -- ---- rows 9 and 4 of a run are those of a frame
-alike_rows : (a b c d e : Bool) (n : ℕ) → ◌≡◌ {A = ℕ} (cond a 9 (cond b 10 (cond c 4 (cond d 6 0)))) n → (n ≡ 9) ⊎ (n ≡ 4) → ◌≡◌ {A = ℕ} (cond a 9 (cond c 4 (cond e 6 0))) n
+alike_rows : (a b c d e : Bool) (n : ℕ) → code_of (row a Broken (row b BadRun (row c BeyondLimits (row d ClockEnd (Ok (tt {0})))))) ≡ n → (n ≡ 9) ⊎ (n ≡ 4) → code_of (row a Broken (row c BeyondLimits (row e ClockEnd (Ok (tt {0}))))) ≡ n
 alike_rows true b c d e n h k = h
 alike_rows false true c d e n h (inl k) = absurd (omega arith)
 alike_rows false true c d e n h (inr k) = absurd (omega arith)
@@ -287,18 +289,18 @@ alike_rows false false false false e n h (inr k) = absurd (omega arith)
 
 alike : (w : World) (xs : List Float) (p : Params) (n : ℕ) → run_number w.sampler (length xs) p (length w.memory) ≡ n → (n ≡ 9) ⊎ (n ≡ 4)
     → (ys : List Float) → length ys ≡ w.sampler.count → code w (frame ys p) ≡ n
-unfolding code frame_number run_number
+unfolding call_judged frame_judged run_judged
 alike w xs p n h k ys l =
     let few : ltb w.sampler.count (length ys) ≡ false = le-ltb w.sampler.count (length ys) (le_of_eq l) in
     rw few
-    (alike_rows (not (good_with w.sampler (length w.memory))) (not (eqb (length xs % w.sampler.count) 0)) (beyond_limits p) (ltb (frames_left w.sampler) (length xs / w.sampler.count)) (any at_end (take (length ys) w.sampler.channels)) n h k)
+    (alike_rows (not (good_with w.sampler (length w.memory))) (not (eqb (length xs % w.sampler.count) 0)) (beyond_limits p) (ltb (frames_left w.sampler) (length xs / w.sampler.count)) (list_any at_end (take (length ys) w.sampler.channels)) n h k)
 
 -- ---- with 6 the frames that are done use up the room
 module _ (w : World) (xs : List Float) (p : Params) (six : run_number w.sampler (length xs) p (length w.memory) ≡ 6) where
-  pub six_works : working (run_number w.sampler (length xs) p (length w.memory)) ≡ true
-  six_works = ap working six
+  pub six_works : begun (run_judged w.sampler (length xs) p (length w.memory)) ≡ true
+  six_works = ap (λ (n : ℕ). eqb n 0 || eqb n 6) six
 
-  tests : (a b c d : Bool) → ◌≡◌ {A = ℕ} (cond a 9 (cond b 10 (cond c 4 (cond d 6 0)))) 6 → d ≡ true
+  tests : (a b c d : Bool) → code_of (row a Broken (row b BadRun (row c BeyondLimits (row d ClockEnd (Ok (tt {0})))))) ≡ 6 → d ≡ true
   tests true b c d h = absurd (omega arith)
   tests false true c d h = absurd (omega arith)
   tests false false true d h = absurd (omega arith)
@@ -306,7 +308,7 @@ module _ (w : World) (xs : List Float) (p : Params) (six : run_number w.sampler 
   tests false false false false h = absurd (omega arith)
 
   more : frames_left w.sampler < length xs / w.sampler.count
-  unfolding run_number
+  unfolding run_judged
   more = ltb-true (frames_left w.sampler) (length xs / w.sampler.count) (tests (not (good_with w.sampler (length w.memory))) (not (eqb (length xs % w.sampler.count) 0)) (beyond_limits p) (ltb (frames_left w.sampler) (length xs / w.sampler.count)) six)
 
   pub all_room : frames_done w xs p ≡ frames_left w.sampler
@@ -325,11 +327,11 @@ sound_stands w h few = record {
 }
 
 module _ (w : World) (fits : FittingSampler w.sampler) (xs : List Float) (p : Params) (floats : FittingParams p) where
-  number : ℕ
-  number = run_number w.sampler (length xs) p (length w.memory)
+  judgement : Result (Unit {0}) Refusal
+  judgement = run_judged w.sampler (length xs) p (length w.memory)
 
-  opens : working number ≡ true → Open w p
-  unfolding number good_with
+  opens : begun judgement ≡ true → Open w p
+  unfolding judgement good_with
   opens e =
       let b = run_begins w.sampler (length xs) p (length w.memory) e in
       let g = (both (good_sampler w.sampler) (leb (w.sampler.count * w.sampler.capacity) (length w.memory)) b.good).0 in
@@ -338,25 +340,25 @@ module _ (w : World) (fits : FittingSampler w.sampler) (xs : List Float) (p : Pa
 
   done_least : frames_done w xs p ≤ frames_left w.sampler
   unfolding done_of
-  done_least = go (working (run_number w.sampler (length xs) p (length w.memory)))
+  done_least = go (begun (run_judged w.sampler (length xs) p (length w.memory)))
     where
       go : (b : Bool) → cond b (min (length xs / w.sampler.count) (frames_left w.sampler)) 0 ≤ frames_left w.sampler
       go true = min-le_right (length xs / w.sampler.count) (frames_left w.sampler)
       go false = zero-le
 
   done : Done w p w.sampler.count (frames_done w xs p) xs
-  unfolding number done_of
-  done = go (working number) refl
+  unfolding judgement done_of
+  done = go (begun judgement) refl
     where
-      nothing : working number ≡ false → frames_done w xs p ≡ 0
+      nothing : begun judgement ≡ false → frames_done w xs p ≡ 0
       nothing e = rw e
 
-      go : (b : Bool) → working number ≡ b → Done w p w.sampler.count (frames_done w xs p) xs
+      go : (b : Bool) → begun judgement ≡ b → Done w p w.sampler.count (frames_done w xs p) xs
       go true e = frames_done_lem p w.sampler.count (frames_done w xs p) w xs refl (opens e) done_least (done_turns w.sampler (length xs) p (length w.memory)).entries
       go false e = subst (λ (k : ℕ). Done w p w.sampler.count k xs) (sym (nothing e)) (done_none w p w.sampler.count xs)
 
   pub in_turn : InTurn w xs p
-  unfolding spread made ran_of number
+  unfolding spread made ran_of judgement
   in_turn = record {
     leaves = done.leaves;
     entries = done.entries;
@@ -435,16 +437,16 @@ module _ (p : Params) (ok : beyond_limits p ≡ false) where
 
 run_stands : (w : World) (xs : List Float) (p : Params) → Standing w → Stands (framed w.sampler xs w.memory) (ran_of w.sampler xs p w.memory)
 unfolding ran_of done_of frames_of
-run_stands w xs p st = go (working (run_number w.sampler (length xs) p (length w.memory))) refl
+run_stands w xs p st = go (begun (run_judged w.sampler (length xs) p (length w.memory))) refl
   where
     f : Framed
     f = framed w.sampler xs w.memory
 
-    turns : (b : Bool) → working (run_number w.sampler (length xs) p (length w.memory)) ≡ b
+    turns : (b : Bool) → begun (run_judged w.sampler (length xs) p (length w.memory)) ≡ b
         → Turns w.sampler (cond b (min (length xs / w.sampler.count) (frames_left w.sampler)) 0) (length xs) (length w.memory)
     turns b e = subst (λ (z : Bool). Turns w.sampler (cond z (min (length xs / w.sampler.count) (frames_left w.sampler)) 0) (length xs) (length w.memory)) e (done_turns w.sampler (length xs) p (length w.memory))
 
-    go : (b : Bool) → working (run_number w.sampler (length xs) p (length w.memory)) ≡ b
+    go : (b : Bool) → begun (run_judged w.sampler (length xs) p (length w.memory)) ≡ b
         → Stands f (frames_of p (cond b (min (length xs / w.sampler.count) (frames_left w.sampler)) 0) f)
     go true e = frames_stand p (run_begins w.sampler (length xs) p (length w.memory) e).within (min (length xs / w.sampler.count) (frames_left w.sampler)) f st (turns true e)
     go false e = record { standing = st; whole = refl }

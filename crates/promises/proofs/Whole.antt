@@ -13,13 +13,16 @@ use lib.Seq.{get_or-take}
 use lib.IntN.{pos}
 use lib.Ieee.{Float, binary32, mul}
 use lib.Ieee.Fits.{mul-fits, of_int-fits}
+use Rattle.std.specs.Prelude.{Result, Ok}
+use Rattle.refusals.specs.declared.Refusal.{Refusal}
+use Rattle.refusals.specs.declared.Refusal.TheVariants.{NoChannel, BeyondLimits, ClockEnd, ShortList, Broken, BadRun, TooManyColumns, Recording, OtherChannels, BadWave, NoRoom}
+use Rattle.refusals.specs.Refusals.{code_of, row}
 use Rattle.binary32.specs.Leaves.{as_float}
 use Rattle.walks.specs.Each.{Each}
 use Rattle.common_types.specs.declared.InitParams.{InitParams}
 use Rattle.common_types.specs.declared.Params.{Params}
 use Rattle.common_types.specs.Settings.{speed_of, loop_length_of, beyond_limits, default_params}
 use Rattle.common_types.proofs.LoopLengths.{loop_length_fits}
-use Rattle.recorder.specs.ErrorText.{error_text}
 use Rattle.clip.specs.Positions.{index_at, next_at}
 use Rattle.phrases.specs.Phrases.{is_over_by}
 use Rattle.voice.specs.declared.Voice.{Voice}
@@ -37,7 +40,7 @@ use Rattle.channel.specs.Soundness.{FittingChange, SoundChannel}
 use Rattle.channel.proofs.Parts.{phrase_inside, phrase_within, voice_at}
 use Rattle.channel.proofs.Samples.{taken_sound}
 use Rattle.sampler.specs.declared.Sampler.{Sampler}
-use Rattle.sampler.specs.Refusals.{channel_at, good_sampler, good_with, any_recording, against_any, no_channel, set_up_number, frame_number, gather_number, channel_number, row, frames_left, run_number}
+use Rattle.sampler.specs.Refusals.{channel_at, good_sampler, good_with, any_recording, against_any, no_channel, set_up_number, frame_judged, gather_judged, frames_left, run_judged, run_number}
 use Rattle.sampler.specs.Soundness.{SoundSampler, Reached, Unbroken}
 use Rattle.sampler.proofs.Entries.{part_length, sample_memory_length, frame_memory_length}
 use Rattle.sampler.proofs.Gathered.{gather_memory_length}
@@ -45,22 +48,23 @@ use Rattle.sampler.proofs.Kept.{small, channel_sound}
 use Rattle.sampler.proofs.Reach.{passes, another, none, reached_sound, reached_unbroken}
 use Rattle.fates.specs.Engine.{moment_at, held_at}
 use Rattle.fates.specs.Events.{length_at, tick_at}
-use Rattle.questions.specs.Questions.{recorder_at, notes_of, list_number, info_number}
-use Rattle.questions.specs.Waveforms.{waveform_number}
+use Rattle.questions.specs.Questions.{list_counted, get_voice_info_of, iter_active_notes_of, print_error_info_of, voice_infos_of}
+use Rattle.questions.specs.Waveforms.{waveform_judged}
 use Rattle.wave.specs.Reader.{file_judged}
 use Rattle.wave.specs.Memory.{bytes_of}
-use Rattle.recordings.specs.Waves.{lengths_differ, layout_in, write_number, bad_file, held_in, read_number}
+use Rattle.recordings.specs.Waves.{lengths_differ, layout_in, write_judged, bad_file, held_in, read_judged}
 use Rattle.recordings.proofs.Numbers.{read_sampler, read_memory_length}
 use Rattle.channel.specs.declared.Change.TheVariants.{Head}
 use Rattle.channel.specs.declared.HeadChange.TheVariants.{Load}
 use Rattle.channel.specs.declared.Ask.TheVariants.{Samples}
-use Rattle.promises.specs.Runs.{World, set_up, Question, get_frames_processed, get_data_len, is_recording, get_last_recorded_offset, print_error_info, iter_active_notes, get_voice_info, fill_voice_info, get_waveform_summary, write_wave, question_number, Call, change, sample, frame, read_wave, gather, asks, code, after, run, chan, FittingCall}
+use Rattle.promises.specs.Runs.{World, set_up, Question, get_frames_processed, get_data_len, is_recording, get_last_recorded_offset, print_error_info, iter_active_notes, get_voice_info, fill_voice_info, get_waveform_summary, write_wave, question_judged, Call, change, sample, frame, read_wave, gather, asks, call_judged, code, after, run, chan, FittingCall, judgement_of}
 use Rattle.promises.specs.Demands.{lengthened, sped, told_length, Asked, AllPlaced, Plays, NoPanic, Whole}
 use Rattle.walks.proofs.Lists.Looks.{look_below, look-value}
 use Rattle.fates.proofs.Own.{held_length}
 use Rattle.fates.proofs.Lives.{live_length}
 use Rattle.promises.proofs.Calls.{Standing, standing_run, standing_new}
 use Rattle.promises.proofs.Accepted.{Heard, heard, start_opens}
+use Rattle.promises.proofs.Outcomes.{judgement_code}
 
 -- ---- the records of a run are reached, and its memory keeps its length
 reached_after : (size : ℕ) (w : World) (c : Call) → FittingCall c → Reached size w.sampler → Reached size (after w c).sampler
@@ -92,34 +96,45 @@ memory_run w [] = refl
 memory_run w (c ∷ cs) = memory_run (after w c) cs ∙ memory_after w c
 
 -- ---- row 9
-not_nine : (b : Bool) (rest : ℕ) → row (not b) 9 rest ≢ 9 → b ≡ true
+not_nine : (b : Bool) (rest : Result (Unit {0}) Refusal) → code_of (row (not b) Broken rest) ≢ 9 → b ≡ true
 not_nine true rest h = refl
 not_nine false rest h = absurd (h refl)
 
 good_with_lem : (s : Sampler) (size : ℕ) → Unbroken s size → good_with s size ≡ true
-unfolding frame_number
+unfolding frame_judged
 good_with_lem s size u = not_nine (good_with s size) _ (u.frame 0 default_params)
 
-asked_nine : (w : World) → good_sampler w.sampler ≡ true → good_with w.sampler (length w.memory) ≡ true → (q : Question) → question_number w q ≢ 9
-unfolding question_number channel_number list_number info_number waveform_number write_number
-asked_nine w g m (get_frames_processed j) = passes (good_sampler w.sampler) _ g (another (no_channel w.sampler j) 1 0 tt none)
-asked_nine w g m (get_data_len j) = passes (good_sampler w.sampler) _ g (another (no_channel w.sampler j) 1 0 tt none)
-asked_nine w g m (is_recording j) = passes (good_sampler w.sampler) _ g (another (no_channel w.sampler j) 1 0 tt none)
-asked_nine w g m (get_last_recorded_offset j) = passes (good_sampler w.sampler) _ g (another (no_channel w.sampler j) 1 0 tt none)
-asked_nine w g m (print_error_info j text) = passes (good_sampler w.sampler) _ g (another (no_channel w.sampler j) 1 _ tt (another (ltb (length text) (length (error_text (recorder_at w.sampler j)))) 8 0 tt none))
-asked_nine w g m (iter_active_notes j notes) = passes (good_sampler w.sampler) _ g (another (no_channel w.sampler j) 1 _ tt (another (ltb (length notes) (length (notes_of (live (channel_at w.sampler j))))) 8 0 tt none))
-asked_nine w g m (get_voice_info j p room) =
-    passes (good_sampler w.sampler) _ g (another (no_channel w.sampler j) 1 _ tt (another (beyond_limits p) 4 _ tt (another (ltb room (channel_at w.sampler j).count) 8 0 tt none)))
-asked_nine w g m (fill_voice_info j p list) =
-    passes (good_sampler w.sampler) _ g (another (no_channel w.sampler j) 1 _ tt (another (beyond_limits p) 4 _ tt (another (ltb (length list) (channel_at w.sampler j).count) 8 0 tt none)))
-asked_nine w g m (get_waveform_summary columns list) =
-    passes (good_with w.sampler (length w.memory)) _ m (another (ltb 4096 columns) 11 _ tt (another (ltb (length list) columns) 8 0 tt none))
-asked_nine w g m (write_wave rate out) =
+-- an answer's judgement has its number
+answered_nine : {A : Type 0} (r : Result A Refusal) → code_of r ≢ 9 → code_of (judgement_of r) ≢ 9
+answered_nine r h e = h (sym (judgement_code r) ∙ e)
+
+listed_nine : (s : Sampler) (j : ℕ) (answer : List ℕ) (room : ℕ) → good_sampler s ≡ true → code_of (list_counted s j answer room) ≢ 9
+unfolding list_counted
+listed_nine s j answer room g = passes (good_sampler s) _ g (another (no_channel s j) NoChannel _ tt (another (ltb room (length answer)) ShortList (Ok (length answer)) tt none))
+
+infos_nine : (s : Sampler) (j : ℕ) (p : Params) (room : ℕ) → good_sampler s ≡ true → code_of (get_voice_info_of s j p room) ≢ 9
+unfolding get_voice_info_of
+infos_nine s j p room g =
+    passes (good_sampler s) _ g
+    (another (no_channel s j) NoChannel _ tt (another (beyond_limits p) BeyondLimits _ tt (another (ltb room (channel_at s j).count) ShortList (Ok (voice_infos_of p (channel_at s 0) (channel_at s j))) tt none)))
+
+asked_nine : (w : World) → Unbroken w.sampler (length w.memory) → good_sampler w.sampler ≡ true → good_with w.sampler (length w.memory) ≡ true → (q : Question) → code_of (question_judged w q) ≢ 9
+unfolding question_judged waveform_judged write_judged
+asked_nine w u g m (get_frames_processed j) = u.question j
+asked_nine w u g m (get_data_len j) = u.question j
+asked_nine w u g m (is_recording j) = u.question j
+asked_nine w u g m (get_last_recorded_offset j) = u.question j
+asked_nine w u g m (print_error_info j text) = answered_nine (print_error_info_of w.sampler j (length text)) (listed_nine w.sampler j _ (length text) g)
+asked_nine w u g m (iter_active_notes j notes) = answered_nine (iter_active_notes_of w.sampler j (length notes)) (listed_nine w.sampler j _ (length notes) g)
+asked_nine w u g m (get_voice_info j p room) = answered_nine (get_voice_info_of w.sampler j p room) (infos_nine w.sampler j p room g)
+asked_nine w u g m (fill_voice_info j p list) = answered_nine (get_voice_info_of w.sampler j p (length list)) (infos_nine w.sampler j p (length list) g)
+asked_nine w u g m (get_waveform_summary columns list) = passes (good_with w.sampler (length w.memory)) _ m (another (ltb 4096 columns) TooManyColumns _ tt (another (ltb (length list) columns) ShortList (Ok tt) tt none))
+asked_nine w u g m (write_wave rate out) =
     passes (good_with w.sampler (length w.memory)) _ m
-    (another (any_recording w.sampler) 15 _ tt (another (lengths_differ w.sampler) 16 _ tt (another (ltb (length out) (bytes_of (layout_in w.sampler))) 8 0 tt none)))
+    (another (any_recording w.sampler) Recording _ tt (another (lengths_differ w.sampler) OtherChannels _ tt (another (ltb (length out) (bytes_of (layout_in w.sampler))) ShortList (Ok tt) tt none)))
 
 no_nine : (w : World) → SoundSampler w.sampler → Unbroken w.sampler (length w.memory) → (c : Call) → code w c ≢ 9
-unfolding code read_number gather_number
+unfolding call_judged read_judged gather_judged
 no_nine w h u (change d) = u.change d
 no_nine w h u (sample j x p) = u.sample j p
 no_nine w h u (frame xs p) = u.frame (length xs) p
@@ -127,16 +142,16 @@ no_nine w h u (read_wave f) =
     let s = w.sampler in
     let held = held_in (file_judged f) in
     passes (good_with s (length w.memory)) _ (good_with_lem s (length w.memory) u)
-    (another (against_any (Samples held.samples) s).blocked 15 _ tt (another (bad_file (file_judged f)) 17 _ tt (another (not (eqb held.channels s.count)) 16 _ tt (another (against_any (Samples held.samples) s).short 18 0 tt none))))
-no_nine w h u gather = passes (good_with w.sampler (length w.memory)) _ (good_with_lem w.sampler (length w.memory) u) (another (any_recording w.sampler) 21 0 tt none)
-no_nine w h u (asks q) = asked_nine w h.good (good_with_lem w.sampler (length w.memory) u) q
+    (another (against_any (Samples held.samples) s).blocked Recording _ tt (another (bad_file (file_judged f)) BadWave _ tt (another (not (eqb held.channels s.count)) OtherChannels _ tt (another (against_any (Samples held.samples) s).short NoRoom (Ok tt) tt none))))
+no_nine w h u gather = u.gather
+no_nine w h u (asks q) = asked_nine w u h.good (good_with_lem w.sampler (length w.memory) u) q
 
 -- a run is tested for row 9 as a frame is
 run_nine : (w : World) → Unbroken w.sampler (length w.memory) → (xs : List Float) (p : Params) → run_number w.sampler (length xs) p (length w.memory) ≢ 9
-unfolding frame_number run_number
+unfolding frame_judged run_judged
 run_nine w u xs p =
     passes (good_with w.sampler (length w.memory)) _ (not_nine (good_with w.sampler (length w.memory)) _ (u.frame 0 p))
-    (another (not (eqb (length xs % w.sampler.count) 0)) 10 _ tt (another (beyond_limits p) 4 _ tt (another (ltb (frames_left w.sampler) (length xs / w.sampler.count)) 6 0 tt none)))
+    (another (not (eqb (length xs % w.sampler.count) 0)) BadRun _ tt (another (beyond_limits p) BeyondLimits _ tt (another (ltb (frames_left w.sampler) (length xs / w.sampler.count)) ClockEnd (Ok tt) tt none)))
 
 -- ---- what a voice sounds by
 module _ (w : World) (st : Standing w) (h : SoundSampler w.sampler) (j n : ℕ) (v : Voice) (c : Call) (p : Params) (x : Float) (m : List ℕ) (y : Plays w j n v c p x m) where

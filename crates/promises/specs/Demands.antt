@@ -45,8 +45,8 @@ pub record Demand1 : Type 0 where
       → (j : ℕ) (p : Params) (x : Float) (m : List ℕ) → event w c j ≡ sounds p x m
       → own_part (left_by w c r) j ≡ memory_of x (chan w j) m
   -- So it is of several calls, and of a run of frames, which is its frame calls (`in_turn`).
-  pub unwritten_run : (w : World) (cs : List Call) (j : ℕ) → any is_sample (events w cs j) ≡ false
-      → any rewrites cs ≡ false → own_part (run w cs) j ≡ own_part w j
+  pub unwritten_run : (w : World) (cs : List Call) (j : ℕ) → list_any is_sample (events w cs j) ≡ false
+      → list_any rewrites cs ≡ false → own_part (run w cs) j ≡ own_part w j
   pub run_sized : (w : World) → FittingSampler w.sampler → (xs : List Float) (p : Params) → FittingParams p
       → (r : RunOutcome) → Allows (along w xs p) r → length (world_left_along r).memory ≡ length w.memory
   -- "voice info fills a lent list of `VoiceInfo` records", and "a lent list longer than the answer keeps its rest." The
@@ -55,18 +55,19 @@ pub record Demand1 : Type 0 where
   pub filled : (w : World) (j : ℕ) (p : Params) (list : List VoiceInfo) (r : InfoOutcome)
       → Allows (on w (asks (fill_voice_info j p list))) r → code w (asks (fill_voice_info j p list)) ≡ 0
       → length (chan w j).voices ≡ 32
-      → (r.answer ≡ Counted.Done (chan w j).count) × (r.lent ≡ figures w j p ++ drop (chan w j).count list)
-  pub informed : (w : World) (j : ℕ) (p : Params) (room : ℕ) (r : VoiceInfos)
+      → (r.answer ≡ Ok (chan w j).count) × (r.lent ≡ figures w j p ++ drop (chan w j).count list)
+  pub informed : (w : World) (j : ℕ) (p : Params) (room : ℕ) (r : Result VoiceInfos Refusal)
       → Allows (on w (asks (get_voice_info j p room))) r → code w (asks (get_voice_info j p room)) ≡ 0
       → length (chan w j).voices ≡ 32
-      → (r.count ≡ (chan w j).count) × (take r.count r.infos ≡ figures w j p)
+      → (v : VoiceInfos) × (r ≡ Ok v) × (v.count ≡ (chan w j).count) × (take v.count v.infos ≡ figures w j p)
   -- 1/12: "for each of up to 4,096 columns of channel 0, the root of the mean square, plus the smallest and largest." A
   -- longer list keeps its rest.
   pub summarized : (w : World) (columns : ℕ) (list : List Float) (r : WaveformOutcome)
       → Allows (on w (asks (get_waveform_summary columns list))) r → code w (asks (get_waveform_summary columns list)) ≡ 0
-      → (r.answer ≡ summary_with (smallest_of (waveform w columns)) (largest_of (waveform w columns)) 0)
+      → (r.answer ≡ Ok (summary_with (smallest_of (waveform w columns)) (largest_of (waveform w columns))))
       × (r.lent ≡ waveform w columns ++ drop columns list)
-  -- "A bad call is answered with a number from document 01," An outcome has the call's number,
+  -- "A bad call is answered with a number from document 01," An outcome has the call's refusal, and so its number,
+  pub named : (w : World) (c : Call) (r : Outcome (on w c)) → Allows (on w c) r → judged_in w c r ≡ call_judged w c
   pub numbered : (w : World) (c : Call) (r : Outcome (on w c)) → Allows (on w c) r → number_in (on w c) r ≡ code w c
   -- which is that of the first of the table's rows that holds, in the table's order, and 0 where none does. "Order: 9
   -- first. Start: 2, 3, 4, 5.
@@ -87,11 +88,11 @@ pub record Demand1 : Type 0 where
   pub frame_rows : (w : World) (xs : List Float) (p : Params) → code w (frame xs p)
       ≡ row (not (good_with w.sampler (length w.memory))) 9
       (row (ltb w.sampler.count (length xs)) 1
-      (row (beyond_limits p) 4 (row (any at_end (take (length xs) w.sampler.channels)) 6 0)))
+      (row (beyond_limits p) 4 (row (list_any at_end (take (length xs) w.sampler.channels)) 6 0)))
   -- A run of frames (request 3/12): "9, then 10 for a length that isn't a whole number of frames, then 4, then 6 with
   -- the count done." `frames_left` is what the largest clock of the channels in use has left.
   pub run_rows : (w : World) (xs : List Float) (p : Params) (r : RunOutcome) → Allows (along w xs p) r
-      → r.answer.ran.number
+      → code_of r.answer.ran.done
       ≡ row (not (good_with w.sampler (length w.memory))) 9
       (row (not (eqb (length xs % w.sampler.count) 0)) 10
       (row (beyond_limits p) 4 (row (ltb (frames_left w.sampler) (length xs / w.sampler.count)) 6 0)))
@@ -124,7 +125,7 @@ pub record Demand1 : Type 0 where
   pub interpolation_rows : (w : World) (on : Bool) → code w (set_interpolation on)
       ≡ row (not (good_sampler w.sampler)) 9 0
   pub set_up_rows : (count : ℕ) (p : InitParams) (m : List ℕ) (r : Answer) → Allows (new count p m) r
-      → r.number ≡ row (not (good_sizes count (capacity_of count (length m)))) 9 0
+      → code_of r.done ≡ row (not (good_sizes count (capacity_of count (length m)))) 9 0
   -- A set-up that is refused leaves a record that every call answers with 9.
   pub unmade : (count : ℕ) (p : InitParams) (m : List ℕ) → set_up_number count (length m) ≢ 0 → (c : Call)
       → code (set_up count p m) c ≡ 9
@@ -135,17 +136,18 @@ pub record Demand1 : Type 0 where
       → (left_by w c r ≡ w) × Untouched w c r
   -- So they do after a run with 9, 10 or 4, of which no frame is done.
   pub run_held : (w : World) (xs : List Float) (p : Params) (r : RunOutcome) → Allows (along w xs p) r
-      → r.answer.ran.number ≢ 0 → r.answer.ran.number ≢ 6
+      → code_of r.answer.ran.done ≢ 0 → code_of r.answer.ran.done ≢ 6
       → (r.answer.ran.frames ≡ 0) × (world_left_along r ≡ w) × (r.run ≡ xs)
   -- "The answer says how many frames were done." With 0 all of them;
   pub run_done : (w : World) (xs : List Float) (p : Params) (r : RunOutcome) → Allows (along w xs p) r
-      → r.answer.ran.number ≡ 0 → r.answer.ran.frames * w.sampler.count ≡ length xs
+      → code_of r.answer.ran.done ≡ 0 → r.answer.ran.frames * w.sampler.count ≡ length xs
   -- "If the clock ends within the run, the frames before it stand and the rest of the lent run is as it came in; that
   -- is the one refusal after work has begun." With 6 all is as after the run of these frames alone, which is done.
   pub run_ends : (w : World) (xs : List Float) (p : Params) (r : RunOutcome) → Allows (along w xs p) r
-      → r.answer.ran.number ≡ 6 → (done : ℕ) → done ≡ r.answer.ran.frames * w.sampler.count
+      → code_of r.answer.ran.done ≡ 6 → (done : ℕ) → done ≡ r.answer.ran.frames * w.sampler.count
       → (q : RunOutcome) → Allows (along w (take done xs) p) q
-      → (q.answer.ran.number ≡ 0) × (q.answer.ran.frames ≡ r.answer.ran.frames) × (world_left_along r ≡ world_left_along q)
+      → (code_of q.answer.ran.done ≡ 0) × (q.answer.ran.frames ≡ r.answer.ran.frames)
+      × (world_left_along r ≡ world_left_along q)
       × (r.run ≡ q.run ++ drop done xs)
   -- The tests of rows 1 to 6, "given exactly when", in document 01's words; row 7, of the small parts; and row 9, with
   -- what a broken record is.
@@ -171,11 +173,11 @@ told_length t v = with_data_length (sped t v) t.now t.span.data_length
 -- mode it is found
 pub record Asked (t : Tick) (v : Voice) : Type 0 where
   pub length : data_to_clip_of (at_length v.clip2 t.span.length) (offset_at v.clip2 t.now)
-      ≡ Done (found_at (at_length v.clip2 t.span.length) (offset_at v.clip2 t.now))
+      ≡ Ok (found_at (at_length v.clip2 t.span.length) (offset_at v.clip2 t.now))
   pub speed : data_to_clip_of (at_speed (lengthened t v) (mul binary32 v.speed t.speed))
-      (offset_at (lengthened t v) t.now) ≡ Done (At (back_of (lengthened t v) (offset_at (lengthened t v) t.now)))
+      (offset_at (lengthened t v) t.now) ≡ Ok (Some (back_of (lengthened t v) (offset_at (lengthened t v) t.now)))
   pub mode : data_to_clip_of (at_mode (told_length t v) t.mode) (offset_at (told_length t v) t.now)
-      ≡ Done (At (back_of (told_length t v) (offset_at (told_length t v) t.now)))
+      ≡ Ok (Some (back_of (told_length t v) (offset_at (told_length t v) t.now)))
 
 -- the place of a clip at a time lies from 0 to below its length, as the Rust's `clip_offset` asserts
 abbrev pub Placed : Clip → ℕ → Type 0
@@ -380,7 +382,7 @@ pub record Demand3 (w : World) (j : ℕ) : Type 0 where
   pub counts : (s : Call) (p : Params) (x : Float) (m : List ℕ) → event w s j ≡ sounds p x m
       → (chan (after w s) j).head.now ≡ (chan w j).head.now + 1
   -- and calls among which there is none leave it: so the next one after a start has the start's count.
-  pub stands : (cs : List Call) → any is_reset_call cs ≡ false → any is_sample (events w cs j) ≡ false
+  pub stands : (cs : List Call) → list_any is_reset_call cs ≡ false → list_any is_sample (events w cs j) ≡ false
       → (chan (run w cs) j).head.now ≡ (chan w j).head.now
   -- What is heard: the call's output for the channel is `volume` times the channel's own.
   pub hears : (s : Call) (p : Params) (x : Float) (m : List ℕ) → event w s j ≡ sounds p x m
@@ -391,7 +393,7 @@ pub record Demand3 (w : World) (j : ℕ) : Type 0 where
   -- recording is judged once the sample has recorded.
   pub on_time : (position : Float) (note : Note) (velocity : Float) (p₀ : Params)
       → code w (start position note velocity p₀) ≡ 0 → is_empty (chan w j) ≡ false
-      → (cs : List Call) → any is_reset_call cs ≡ false
+      → (cs : List Call) → list_any is_reset_call cs ≡ false
       → (s : Call) (p : Params) (x : Float) (m : List ℕ)
       → event (run w (start position note velocity p₀ ∷ cs)) s j ≡ sounds p x m
       → (chan (run w (start position note velocity p₀ ∷ cs)) j).head.now ≡ (chan w j).head.now
@@ -404,14 +406,14 @@ pub record Demand3 (w : World) (j : ℕ) : Type 0 where
   -- And until it is finished a voice sounds, where it then stands, in every accepted sample that finds the recording
   -- not empty.
   pub sounds_on : (n : ℕ) (v : Voice) → voice_at (chan w j) n ≡ some v → v.finished ≡ false
-      → (cs : List Call) → any is_reset_call cs ≡ false → finished_in (events w cs j) (chan w j) n ≡ false
+      → (cs : List Call) → list_any is_reset_call cs ≡ false → finished_in (events w cs j) (chan w j) n ≡ false
       → (s : Call) (p : Params) (x : Float) (m : List ℕ) → event (run w cs) s j ≡ sounds p x m
       → empty_at m (chan (run w cs) j) v ≡ false
       → (k : ℕ) × (u : Voice) × (follow_all (events w cs j) (chan w j) n ≡ at k) × SoundsIn (run w cs) s j p x m k u
   -- STAYS. "No voice leaves before a stop or play-once has finished it." The call that it leaves in may be the one that
   -- finishes it.
   pub stays : (n : ℕ) (v : Voice) → voice_at (chan w j) n ≡ some v → v.finished ≡ false
-      → (cs : List Call) → any is_reset_call cs ≡ false → follow_all (events w cs j) (chan w j) n ≡ gone
+      → (cs : List Call) → list_any is_reset_call cs ≡ false → follow_all (events w cs j) (chan w j) n ≡ gone
       → finished_in (events w cs j) (chan w j) n ≡ true
   -- How a voice is followed: at the place that it is followed to stands what the call makes of that very voice. Voices
   -- keep their order,
@@ -459,7 +461,7 @@ pub record Undisturbed (w : World) (j : ℕ) (b : Call) (cs : List Call) (s : Ca
     (born : Voice) (k : ℕ) : Type 0 where
   pub accepted : code w b ≡ 0
   pub recorded : is_empty (chan w j) ≡ false
-  pub no_reset : any is_reset_call cs ≡ false
+  pub no_reset : list_any is_reset_call cs ≡ false
   pub unfinished : finished_in (events (after w b) cs j) (chan (after w b) j) (length (live (chan w j))) ≡ false
   pub unaltered : altered_in (events (after w b) (cs ++ (s ∷ [])) j) (chan (after w b) j) (length (live (chan w j)))
       ≡ false

@@ -3,7 +3,9 @@
 -- definitions. That it does is checked of each function in the crate `contracts`: of those by value
 -- (sampler/src/lib.rt, questions/src/lib.rt, recordings/src/lib.rt, smf/src/lib.rt, songs/src/lib.rt) by a twin whose `ensures` is `Allows`, and of those on a record that the
 -- host lends (lent_sampler/src/lib.rt, lent_songs/src/lib.rt) by the theorem `Lent` on the function itself. Definitions only. Assumes nothing.
-use Rattle.std.specs.Prelude.{◌≡◌, ℕ, List, [], ◌∷◌, length, get_or, Float}
+use Rattle.std.specs.Prelude.{◌≡◌, ℕ, Bool, List, [], ◌∷◌, length, get_or, Float, Option, Result}
+use Rattle.refusals.specs.declared.Refusal.{Refusal}
+use Rattle.refusals.specs.Refusals.{code_of}
 use Rattle.common_types.specs.declared.InitParams.{InitParams}
 use Rattle.binary32.specs.Leaves.{zero32}
 use Rattle.sampler.specs.declared.Answer.{Answer}
@@ -11,7 +13,7 @@ use Rattle.sampler.specs.declared.SampleAnswer.{SampleAnswer}
 use Rattle.sampler.specs.declared.FrameAnswer.{FrameAnswer}
 use Rattle.sampler.specs.declared.RunAnswer.{RunAnswer}
 use Rattle.common_types.specs.declared.Params.{Params}
-use Rattle.sampler.specs.Refusals.{frame_number}
+use Rattle.sampler.specs.Refusals.{frame_judged}
 use Rattle.sampler.specs.Samplers.{
   set_up_of,
   change_of,
@@ -25,15 +27,9 @@ use Rattle.sampler.specs.Samplers.{
   ran_of,
   run_answer,
 }
-use Rattle.questions.specs.declared.Counted.{Counted}
-use Rattle.questions.specs.declared.Told.{Told}
-use Rattle.questions.specs.declared.OffsetAnswer.{OffsetAnswer}
 use Rattle.questions.specs.declared.VoiceInfo.{VoiceInfo}
 use Rattle.questions.specs.declared.VoiceInfos.{VoiceInfos}
 use Rattle.questions.specs.Questions.{
-  counted_number,
-  told_number,
-  offset_number,
   get_frames_processed_of,
   get_data_len_of,
   is_recording_of,
@@ -50,7 +46,7 @@ use Rattle.recordings.specs.declared.ReadAnswer.{ReadAnswer}
 use Rattle.recordings.specs.Waves.{write_wave_of, wave_after, read_wave_of, read_memory}
 use Rattle.questions.specs.Lists.{voice_info_counted, voice_info_after}
 use Rattle.smf.specs.Cues.{cues_number, counted_judged, list_of}
-use Rattle.smf.specs.declared.Counted.{Counted as SongCounted}
+use Rattle.smf.specs.declared.SongRefusal.{SongRefusal}
 use Rattle.songs.specs.Plays.{play_of}
 use Rattle.songs.specs.declared.Playing.{Playing}
 use Rattle.sampler.specs.declared.Sampler.{Sampler}
@@ -77,6 +73,7 @@ use Rattle.promises.specs.Runs.{
   one,
   frames,
   with_sampler,
+  judgement_of,
 }
 
 -- set-up on a memory; every call on a record, with the memory that is lent to a sample, a frame and a waveform; a run
@@ -113,19 +110,19 @@ pub record GatherOutcome : Type 0 where
 
 -- of a question that is answered in a lent list
 pub record ListOutcome : Type 0 where
-  pub answer : Counted
+  pub answer : Result ℕ Refusal
   pub lent : List ℕ
 
 pub record InfoOutcome : Type 0 where
-  pub answer : Counted
+  pub answer : Result ℕ Refusal
   pub lent : List VoiceInfo
 
 pub record WaveformOutcome : Type 0 where
-  pub answer : WaveformSummary
+  pub answer : Result WaveformSummary Refusal
   pub lent : List Float
 
 pub record SongOutcome : Type 0 where
-  pub answer : SongCounted
+  pub answer : Result ℕ SongRefusal
   pub lent : List ℕ
 
 abbrev pub Outcome : Given → Type 0
@@ -138,13 +135,13 @@ Outcome (on w gather) = GatherOutcome
 Outcome (along w xs p) = RunOutcome
 Outcome (reads f rate list) = SongOutcome
 Outcome (plays s list next at p) = Playing
-Outcome (on w (asks (get_frames_processed j))) = Counted
-Outcome (on w (asks (get_data_len j))) = Counted
-Outcome (on w (asks (is_recording j))) = Told
-Outcome (on w (asks (get_last_recorded_offset j))) = OffsetAnswer
+Outcome (on w (asks (get_frames_processed j))) = Result ℕ Refusal
+Outcome (on w (asks (get_data_len j))) = Result ℕ Refusal
+Outcome (on w (asks (is_recording j))) = Result Bool Refusal
+Outcome (on w (asks (get_last_recorded_offset j))) = Result (Option ℕ) Refusal
 Outcome (on w (asks (print_error_info j text))) = ListOutcome
 Outcome (on w (asks (iter_active_notes j notes))) = ListOutcome
-Outcome (on w (asks (get_voice_info j p room))) = VoiceInfos
+Outcome (on w (asks (get_voice_info j p room))) = Result VoiceInfos Refusal
 Outcome (on w (asks (fill_voice_info j p list))) = InfoOutcome
 Outcome (on w (asks (get_waveform_summary columns list))) = WaveformOutcome
 Outcome (on w (asks (write_wave rate out))) = ListOutcome
@@ -156,7 +153,7 @@ Allows (on w (change d)) r = r ≡ change_of w.sampler d
 Allows (on w (sample j x p)) r = (r.answer ≡ process_sample_of w.sampler j x p w.memory)
     × (r.memory ≡ sample_memory w.sampler j x p w.memory)
 Allows (on w (frame xs p)) r =
-    (r.answer.number ≡ frame_number w.sampler (length xs) p (length w.memory))
+    (r.answer.done ≡ frame_judged w.sampler (length xs) p (length w.memory))
     × Frames (framed_of w.sampler xs p w.memory) r.answer.sampler r.frame r.memory
     × (r.answer.moved ≡ frame_moved w.sampler xs p w.memory)
 Allows (on w (read_wave f)) r =
@@ -193,27 +190,31 @@ pub record Settled (g : Given) : Type 0 where
 
 -- ---- what is read off an outcome
 
+-- how a call on a record was judged
+abbrev pub judged_in : (w : World) (c : Call) → Outcome (on w c) → Result (Unit {0}) Refusal
+judged_in w (change d) r = r.done
+judged_in w (sample j x p) r = r.answer.done
+judged_in w (frame xs p) r = r.answer.done
+judged_in w (read_wave f) r = judgement_of r.answer.read
+judged_in w gather r = r.answer.done
+judged_in w (asks (get_frames_processed j)) r = judgement_of r
+judged_in w (asks (get_data_len j)) r = judgement_of r
+judged_in w (asks (is_recording j)) r = judgement_of r
+judged_in w (asks (get_last_recorded_offset j)) r = judgement_of r
+judged_in w (asks (print_error_info j text)) r = judgement_of r.answer
+judged_in w (asks (iter_active_notes j notes)) r = judgement_of r.answer
+judged_in w (asks (get_voice_info j p room)) r = judgement_of r
+judged_in w (asks (fill_voice_info j p list)) r = judgement_of r.answer
+judged_in w (asks (get_waveform_summary columns list)) r = judgement_of r.answer
+judged_in w (asks (write_wave rate out)) r = judgement_of r.answer
+
 -- document 01's or 02's number; playing a song has none, and answers how many of its calls were refused
 abbrev pub number_in : (g : Given) → Outcome g → ℕ
-number_in (new count p m) r = r.number
-number_in (on w (change d)) r = r.number
-number_in (on w (sample j x p)) r = r.answer.number
-number_in (on w (frame xs p)) r = r.answer.number
-number_in (on w (read_wave f)) r = r.answer.read.number
-number_in (on w gather) r = r.answer.number
-number_in (along w xs p) r = r.answer.ran.number
+number_in (new count p m) r = code_of r.done
+number_in (on w c) r = code_of (judged_in w c r)
+number_in (along w xs p) r = code_of r.answer.ran.done
 number_in (reads f rate list) r = cues_number r.answer
 number_in (plays s list next at p) r = 0
-number_in (on w (asks (get_frames_processed j))) r = counted_number r
-number_in (on w (asks (get_data_len j))) r = counted_number r
-number_in (on w (asks (is_recording j))) r = told_number r
-number_in (on w (asks (get_last_recorded_offset j))) r = offset_number r
-number_in (on w (asks (print_error_info j text))) r = counted_number r.answer
-number_in (on w (asks (iter_active_notes j notes))) r = counted_number r.answer
-number_in (on w (asks (get_voice_info j p room))) r = r.number
-number_in (on w (asks (fill_voice_info j p list))) r = counted_number r.answer
-number_in (on w (asks (get_waveform_summary columns list))) r = r.answer.number
-number_in (on w (asks (write_wave rate out))) r = counted_number r.answer
 
 -- the record and the memory for the next call
 abbrev pub left_by : (w : World) (c : Call) → Outcome (on w c) → World

@@ -2,7 +2,7 @@
 -- recording being that of the voice's phrase", stands in demand 3 itself (`held_at`, `empty_at` of a voice), and which
 -- records the phrases break in `Broken.antt`. Definitions only. Assumes nothing.
 use Rattle.std.specs.Prelude.{◌≡◌, Bool, false, not, ◌&&◌, ◌||◌, ◌⊎◌, ◌≢◌, List, [], ◌∷◌, ℕ, ◌+◌, ◌≤◌, ◌<◌, leb, eqb, length, take, drop, Float}
-use Rattle.walks.specs.Walks.{any}
+use Rattle.std.specs.List.{list_any}
 use Rattle.walks.specs.Each.{Each}
 use Rattle.common_types.specs.declared.Params.{Params}
 use Rattle.binary32.specs.Leaves.{bits_of}
@@ -17,7 +17,7 @@ use Rattle.channel.specs.declared.HeadChange.TheVariants.{Choose}
 use Rattle.channel.specs.Heads.{with_recorded, holds_of, moment_of}
 use Rattle.channel.specs.Channels.{with_head, live, phrase_at, moment_for, beside_in, uses_of, taken_of, memory_of}
 use Rattle.sampler.specs.declared.Answer.{Answer}
-use Rattle.sampler.specs.Refusals.{row, present, good_sampler, good_with, records, any_recording}
+use Rattle.sampler.specs.Refusals.{present, good_sampler, good_with, records, any_recording}
 use Rattle.sampler.specs.Soundness.{FittingSampler}
 use Rattle.fates.specs.Events.{Event, changes, sounds, act}
 use Rattle.promises.specs.Runs.{
@@ -29,6 +29,7 @@ use Rattle.promises.specs.Runs.{
   read_wave,
   gather,
   code,
+  row,
   chan,
   own_part,
   event,
@@ -121,9 +122,9 @@ pub record Phrases (w : World) : Type 0 where
   -- new choice of phrase while recording; 19 precedes the others, 9 precedes all."
   pub choose_rows : (k : ℕ) → code w (choose_phrase k)
       ≡ row (not (good_sampler w.sampler)) 9
-      (row (leb 8 k) 19 (row (any (records_other k) (present w.sampler)) 21 0))
+      (row (leb 8 k) 19 (row (list_any (records_other k) (present w.sampler)) 21 0))
   pub delete_rows : (k : ℕ) → code w (delete_phrase k)
-      ≡ row (not (good_sampler w.sampler)) 9 (row (leb 8 k) 19 (row (any (in_use k) (present w.sampler)) 20 0))
+      ≡ row (not (good_sampler w.sampler)) 9 (row (leb 8 k) 19 (row (list_any (in_use k) (present w.sampler)) 20 0))
   pub gather_rows : code w gather
       ≡ row (not (good_with w.sampler (length w.memory))) 9 (row (any_recording w.sampler) 21 0)
   -- "Choice, delete and gather act on all channels or none."

@@ -1,8 +1,9 @@
 -- Request 10/12, after demand 3: "Recordings out and in as WAVE", said of the calls. What a good file is, is said of its
 -- bytes alone in wave/specs/Grammar.antt (`IsWave`). Definitions only. Assumes nothing.
-use Rattle.std.specs.Prelude.{◌≡◌, Bool, not, List, ℕ, ◌+◌, ◌*◌, ◌^◌, ◌<◌, eqb, ltb, length, take, drop}
-use Rattle.walks.specs.Walks.{any}
+use Rattle.std.specs.Prelude.{◌≡◌, Bool, not, List, ℕ, ◌+◌, ◌*◌, ◌^◌, ◌<◌, eqb, ltb, length, take, drop, Result, Ok}
+use Rattle.std.specs.List.{list_any}
 use Rattle.walks.specs.Each.{Each}
+use Rattle.refusals.specs.declared.Refusal.{Refusal}
 use Rattle.octets.specs.Octets.{Bytes}
 use Rattle.wave.specs.Files.{file_of}
 use Rattle.wave.specs.Grammar.{IsWave}
@@ -13,11 +14,9 @@ use Rattle.channel.specs.declared.Channel.{Channel}
 use Rattle.channel.specs.Heads.{holds_of}
 use Rattle.channel.specs.Channels.{with_head, recording_of, beside_in, begins_in}
 use Rattle.sampler.specs.declared.Sampler.{Sampler}
-use Rattle.sampler.specs.Refusals.{row, present, good_with, any_recording}
-use Rattle.questions.specs.declared.Counted.TheVariants.{Done}
-use Rattle.recordings.specs.declared.WaveRead.{WaveRead}
+use Rattle.sampler.specs.Refusals.{present, good_with, any_recording}
 use Rattle.recordings.specs.Waves.{samples_of, lengths_differ}
-use Rattle.promises.specs.Runs.{World, read_wave, asks, write_wave, code, chan, own_part}
+use Rattle.promises.specs.Runs.{World, read_wave, asks, write_wave, code, row, chan, own_part}
 use Rattle.promises.specs.Outcomes.{on, ListOutcome, ReadOutcome, Allows, left_by}
 
 -- the recording of channel j, for demand 3 too
@@ -43,7 +42,7 @@ write_place_of h = elim h.recorder.state [ Triggered write ↦ write | Idle ↦ 
 -- one of the channels in use may not hold so many samples
 abbrev pub no_room : Sampler → ℕ → Bool
 no_room s samples =
-    any (λ (c : Channel). ltb (holds_of (beside_in s.capacity c) s.capacity c.head) samples) (present s)
+    list_any (λ (c : Channel). ltb (holds_of (beside_in s.capacity c) s.capacity c.head) samples) (present s)
 
 -- ---- what a write leaves
 
@@ -61,7 +60,7 @@ pub record Written (w : World) (rate : ℕ) (out : List ℕ) (r : ListOutcome) :
   -- it has the recordings;
   pub recordings : Filed w w.sampler.count (samples_of w.sampler) words
   -- the answer has the bytes written, and a longer list keeps its rest
-  pub answer : r.answer ≡ Done (bytes_in w)
+  pub answer : r.answer ≡ Ok (bytes_in w)
   pub rest : drop (bytes_in w) r.lent ≡ drop (bytes_in w) out
 
 -- ---- what a read leaves, from w to u
@@ -80,9 +79,9 @@ beginning start samples
       chosen = h.chosen;
     }
 
-pub record Read (w u : World) (rate channels samples : ℕ) (words : List ℕ) (answer : WaveRead) : Type 0 where
-  -- the answer has the rate
-  pub rated : answer ≡ record { rate = rate; number = 0 }
+pub record Read (w u : World) (rate channels samples : ℕ) (words : List ℕ) (answer : Result ℕ Refusal) : Type 0 where
+  -- the answer is the rate
+  pub rated : answer ≡ Ok rate
   -- "Reading replaces the recording of each channel"; "Demand 3's recording is then the one read."
   pub recordings : Filed u channels samples words
   -- where the recording of a channel began, or behind the other phrases if it was empty (11/12); a part keeps what stands
@@ -128,6 +127,6 @@ pub record Recordings (w : World) : Type 0 where
       → code w (asks (write_wave rate out)) ≡ 0 → rate < 2 ^ 32 → Words w.memory → Two w
       → (u : World) (q : ReadOutcome) → Allows (on u (read_wave (take (bytes_in w) r.lent))) q
       → code u (read_wave (take (bytes_in w) r.lent)) ≡ 0 → Two u
-      → (q.answer.read.rate ≡ rate)
+      → (q.answer.read ≡ Ok rate)
       × ((j : ℕ) → j < w.sampler.count
       → recording (left_by u (read_wave (take (bytes_in w) r.lent)) q) j ≡ recording w j)

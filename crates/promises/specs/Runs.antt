@@ -1,7 +1,9 @@
 -- Runs of calls: the record and the memory lent with it, as each call leaves them for the next, and what each call does
 -- to one channel. A call changes them by the very definitions that its contract cites. Definitions only. Assumes
 -- nothing.
-use Rattle.std.specs.Prelude.{◌≡◌, ℕ, zero, suc, Bool, true, false, cond, List, [], ◌∷◌, ◌++◌, eqb, ltb, length, take, drop, get_or, Float}
+use Rattle.std.specs.Prelude.{◌≡◌, ℕ, zero, suc, Bool, true, false, cond, List, [], ◌∷◌, ◌++◌, eqb, ltb, length, take, drop, get_or, Float, Result, Ok, Err, is_ok}
+use Rattle.refusals.specs.declared.Refusal.{Refusal}
+use Rattle.refusals.specs.Refusals.{code_of}
 use Rattle.common_types.specs.declared.InitParams.{InitParams}
 use Rattle.common_types.specs.declared.Params.{Params}
 use Rattle.common_types.specs.declared.Note.{Note}
@@ -14,9 +16,15 @@ use Rattle.channel.specs.declared.HeadChange.TheVariants.{StartRecording, StopRe
 use Rattle.channel.specs.Heads.{interpolates_after}
 use Rattle.channel.specs.Soundness.{FittingChange}
 use Rattle.sampler.specs.declared.Sampler.{Sampler}
-use Rattle.recorder.specs.ErrorText.{error_text}
-use Rattle.channel.specs.Channels.{live}
-use Rattle.sampler.specs.Refusals.{channel_at, change_number, gather_number, sample_number, frame_number, channel_number, done_of}
+use Rattle.sampler.specs.Refusals.{
+  channel_at,
+  change_judged,
+  gather_judged,
+  sample_judged,
+  frame_judged,
+  channel_judged,
+  done_of,
+}
 use Rattle.sampler.specs.Samplers.{
   set_up_of,
   change_of,
@@ -29,10 +37,10 @@ use Rattle.sampler.specs.Samplers.{
   ran_of,
 }
 use Rattle.questions.specs.declared.VoiceInfo.{VoiceInfo}
-use Rattle.questions.specs.Questions.{recorder_at, notes_of, list_number, info_number}
-use Rattle.questions.specs.Waveforms.{waveform_number}
+use Rattle.questions.specs.Questions.{print_error_info_of, iter_active_notes_of, get_voice_info_of}
+use Rattle.questions.specs.Waveforms.{waveform_judged}
 use Rattle.wave.specs.Reader.{file_judged}
-use Rattle.recordings.specs.Waves.{write_number, held_in, read_number, read_wave_of, read_memory}
+use Rattle.recordings.specs.Waves.{write_judged, held_in, read_judged, read_wave_of, read_memory}
 use Rattle.fates.specs.Events.{Event, idle, changes, gathers, sounds, is_reset}
 
 pub record World : Type 0 where
@@ -98,29 +106,41 @@ delete_phrase k = change (Head (Delete k))
 abbrev pub reset : Call
 reset = change Reset
 
-unfoldable pub question_number : World → Question → ℕ
-question_number w (get_frames_processed j) = channel_number w.sampler j
-question_number w (get_data_len j) = channel_number w.sampler j
-question_number w (is_recording j) = channel_number w.sampler j
-question_number w (get_last_recorded_offset j) = channel_number w.sampler j
-question_number w (print_error_info j text) = list_number w.sampler j (error_text (recorder_at w.sampler j))
-    (length text)
-question_number w (iter_active_notes j notes) = list_number w.sampler j (notes_of (live (channel_at w.sampler j)))
-    (length notes)
-question_number w (get_voice_info j p room) = info_number w.sampler j p room
-question_number w (fill_voice_info j p list) = info_number w.sampler j p (length list)
-question_number w (get_waveform_summary columns list) =
-    waveform_number w.sampler columns (length list) (length w.memory)
-question_number w (write_wave rate out) = write_number w.sampler (length out) (length w.memory)
+-- ---- how a call is judged: by its refusal, or done
 
--- document 01's number of a call: 0 where it is accepted
-unfoldable pub code : World → Call → ℕ
-code w (change d) = change_number w.sampler d
-code w (sample j x p) = sample_number w.sampler j p (length w.memory)
-code w (frame xs p) = frame_number w.sampler (length xs) p (length w.memory)
-code w (read_wave f) = read_number w.sampler (file_judged f) (length w.memory)
-code w gather = gather_number w.sampler (length w.memory)
-code w (asks q) = question_number w q
+-- an answer's own judgement, without what it answers
+abbrev pub judgement_of : {A : Type 0} → Result A Refusal → Result (Unit {0}) Refusal
+judgement_of (Ok answer) = Ok tt
+judgement_of (Err refusal) = Err refusal
+
+unfoldable pub question_judged : World → Question → Result (Unit {0}) Refusal
+question_judged w (get_frames_processed j) = channel_judged w.sampler j
+question_judged w (get_data_len j) = channel_judged w.sampler j
+question_judged w (is_recording j) = channel_judged w.sampler j
+question_judged w (get_last_recorded_offset j) = channel_judged w.sampler j
+question_judged w (print_error_info j text) = judgement_of (print_error_info_of w.sampler j (length text))
+question_judged w (iter_active_notes j notes) = judgement_of (iter_active_notes_of w.sampler j (length notes))
+question_judged w (get_voice_info j p room) = judgement_of (get_voice_info_of w.sampler j p room)
+question_judged w (fill_voice_info j p list) = judgement_of (get_voice_info_of w.sampler j p (length list))
+question_judged w (get_waveform_summary columns list) =
+    waveform_judged w.sampler columns (length list) (length w.memory)
+question_judged w (write_wave rate out) = write_judged w.sampler (length out) (length w.memory)
+
+unfoldable pub call_judged : World → Call → Result (Unit {0}) Refusal
+call_judged w (change d) = change_judged w.sampler d
+call_judged w (sample j x p) = sample_judged w.sampler j p (length w.memory)
+call_judged w (frame xs p) = frame_judged w.sampler (length xs) p (length w.memory)
+call_judged w (read_wave f) = read_judged w.sampler (file_judged f) (length w.memory)
+call_judged w gather = gather_judged w.sampler (length w.memory)
+call_judged w (asks q) = question_judged w q
+
+-- document 01's number of it: 0 where it is accepted
+abbrev pub code : World → Call → ℕ
+code w c = code_of (call_judged w c)
+
+-- a row of the table, by its number, where its test holds, else what the rows after it give
+abbrev pub row : Bool → ℕ → ℕ → ℕ
+row test number rest = cond test number rest
 
 abbrev pub with_sampler : Sampler → World → World
 with_sampler s w = record { sampler = s; memory = w.memory }
@@ -172,7 +192,7 @@ done_to w (asks q) j = idle
 
 -- a refused call does nothing
 unfoldable pub event : World → Call → ℕ → Event
-event w c j = cond (eqb (code w c) 0) (done_to w c j) idle
+event w c j = cond (is_ok (call_judged w c)) (done_to w c j) idle
 
 unfoldable pub events : World → List Call → ℕ → List Event
 events w [] j = []
@@ -195,7 +215,7 @@ setting_by accepted (asks q) on = on
 
 unfoldable pub setting_in : World → Bool → List Call → Bool
 setting_in w on [] = on
-setting_in w on (c ∷ cs) = setting_in (after w c) (setting_by (eqb (code w c) 0) c on) cs
+setting_in w on (c ∷ cs) = setting_in (after w c) (setting_by (is_ok (call_judged w c)) c on) cs
 
 unfoldable pub is_reset_call : Call → Bool
 is_reset_call (change d) = is_reset (changes d)

@@ -1,9 +1,10 @@
 -- Document 01's K1 to K10 as one table: a case, and what it gives. Floats are compared by all that they are, so -0 is
 -- not 0. Definitions only. Assumes nothing.
-use Rattle.std.specs.Prelude.{◌≡◌, ℕ, ◌+◌, false, List, [], ◌∷◌, ◌++◌, pos, negsuc, Float}
+use Rattle.std.specs.Prelude.{◌≡◌, ℕ, ◌+◌, false, List, [], ◌∷◌, ◌++◌, pos, negsuc, Float, Result, Ok, Err}
 use Rattle.std.proofs.Math.Option.{Option, none, some}
 use Rattle.std.specs.Float.{nan, fin}
 use Rattle.std.specs.Float.Ieee.{neg}
+use Rattle.refusals.specs.declared.Refusal.{Refusal}
 use Rattle.walks.specs.Each.{Each}
 use Rattle.binary32.specs.Leaves.{as_float}
 use Rattle.common_types.specs.declared.Params.{Params}
@@ -16,15 +17,12 @@ use Rattle.common_types.specs.Times.{as_samples_of}
 use Rattle.common_types.specs.Settings.{default_transport, loop_length_of}
 use Rattle.volume.specs.declared.Volume.{Volume}
 use Rattle.volume.specs.declared.Volume.TheVariants.{Static}
-use Rattle.volume.specs.declared.LevelAnswer.{LevelAnswer}
-use Rattle.volume.specs.declared.LevelAnswer.TheVariants as level
 use Rattle.volume.specs.Levels.{toward_of, value_answer}
 use Rattle.clip.specs.declared.Clip.{Clip}
 use Rattle.clip.specs.declared.Mode.{Mode}
 use Rattle.clip.specs.declared.Mode.TheVariants.{Loop, PingPong}
 use Rattle.clip.specs.Positions.{sum_of}
-use Rattle.clip.specs.declared.PositionAnswer.{PositionAnswer}
-use Rattle.clip.specs.declared.PositionAnswer.TheVariants as position
+use Rattle.clip.specs.declared.Position.{Position}
 use Rattle.clip.specs.Updates.{made_of}
 use Rattle.clip.specs.Refusals.{offset_of}
 
@@ -37,13 +35,13 @@ pub data Case : Type 0 where
   value : (v : Volume) (now : ℕ) → Case
 
 -- index and fraction together (request 7/12)
-abbrev pub of_position : PositionAnswer → Option Float
-of_position (position.Done p) = some (sum_of p)
-of_position position.Refused = none
+abbrev pub of_position : Result Position Refusal → Option Float
+of_position (Ok p) = some (sum_of p)
+of_position (Err refusal) = none
 
-abbrev pub of_level : LevelAnswer → Option Float
-of_level (level.Done x) = some x
-of_level level.Refused = none
+abbrev pub of_level : Result Float Refusal → Option Float
+of_level (Ok x) = some x
+of_level (Err refusal) = none
 
 -- what the call answers, and `none` where it is refused
 unfoldable pub given : Case → Option Float

@@ -16,8 +16,7 @@ use Rattle.channel.specs.declared.Channel.{Channel}
 use Rattle.channel.specs.Channels.{live, phrase_at}
 use Rattle.voice.specs.declared.Voice.{Voice}
 use Rattle.questions.specs.declared.VoiceInfo.{VoiceInfo}
-use Rattle.questions.specs.declared.VoiceInfos.{VoiceInfos}
-use Rattle.questions.specs.Questions.{voice_info_of, in_front, no_infos, infos_with, figures_of}
+use Rattle.questions.specs.Questions.{voice_info_of, in_front, no_infos, figures_of}
 
 -- a voice's figures, by its phrase on the two channels
 pub figured : (p : Params) (first own : Channel) (v : Voice) (a b : Phrase) (size n : Float) (x : VoiceInfo) → a ≡ phrase_at first v.phrase
@@ -26,15 +25,13 @@ unfolding figures_of
 figured p first own v a b size n x e f g h k = rw (k, g, h, e, f) refl
 
 -- what the rest of the walk gives, from place i on, where f gives a voice's figures
-abbrev pub filled : (Voice → VoiceInfo) → VoiceInfos → ℕ → List Voice → VoiceInfos
-filled f answer i vs = infos_with (sets answer.infos i (map f vs)) answer.count answer.number
+abbrev pub filled : (Voice → VoiceInfo) → List VoiceInfo → ℕ → List Voice → List VoiceInfo
+filled f infos i vs = sets infos i (map f vs)
 
-pub filled_on : (f : Voice → VoiceInfo) (answer : VoiceInfos) (i : ℕ) (v : Voice) (x : VoiceInfo) (vs : List Voice) → x ≡ f v
-    → filled f answer i (v ∷ vs) ≡ filled f (infos_with (set answer.infos i x) answer.count answer.number) (i + 1) vs
-filled_on f answer i v x vs e = rw (e, add-one i)
+pub filled_on : (f : Voice → VoiceInfo) (infos : List VoiceInfo) (i : ℕ) (v : Voice) (x : VoiceInfo) (vs : List Voice) → x ≡ f v
+    → filled f infos i (v ∷ vs) ≡ filled f (set infos i x) (i + 1) vs
+filled_on f infos i v x vs e = rw (e, add-one i)
 
 pub filled_front : (f : Voice → VoiceInfo) (c : Channel) → length c.voices ≡ 32
-    → filled f (infos_with no_infos c.count 0) 0 (live c) ≡ infos_with (in_front (map f (live c)) no_infos) c.count 0
-filled_front f c long =
-    ap (λ (infos : List VoiceInfo). infos_with infos c.count 0)
-    (run_front no_infos (map f (live c)) (omega (arith, length-map (live c) f, length-take c.count c.voices)))
+    → filled f no_infos 0 (live c) ≡ in_front (map f (live c)) no_infos
+filled_front f c long = run_front no_infos (map f (live c)) (omega (arith, length-map (live c) f, length-take c.count c.voices))

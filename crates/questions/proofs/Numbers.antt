@@ -1,22 +1,19 @@
--- The number of each answer is what its rows of document 01's table give. Assumes nothing.
-use mathlib.Core.Path.{◌≡◌, refl, sym, ◌∙◌}
-use mathlib.Core.Bool.{Bool, true, false}
+-- The number of each answer is what its rows of document 01's table give: what is answered where they are passed has none. Assumes nothing.
+use mathlib.Core.Path.{◌≡◌, refl}
+use mathlib.Core.Bool.{Bool, true, false, not}
 use mathlib.Core.List.{List}
 use Prim.Native.Nat.{ℕ}
+use lib.Dec.{ltb}
 use lib.ListN.{length}
-use borrow.Author.Tests.{eqb-true}
-use lib.Dec.{eqb}
+use Rattle.std.specs.Prelude.{Result, Ok}
+use Rattle.refusals.specs.declared.Refusal.{Refusal}
+use Rattle.refusals.specs.declared.Refusal.TheVariants.{NoChannel, ShortList, Broken, TooManyColumns}
+use Rattle.refusals.specs.Refusals.{code_of, row}
 use Rattle.common_types.specs.declared.Params.{Params}
 use Rattle.sampler.specs.declared.Sampler.{Sampler}
-use Rattle.sampler.specs.Refusals.{channel_number}
-use Rattle.questions.specs.declared.VoiceInfos.{VoiceInfos}
-use Rattle.questions.specs.declared.WaveformSummary.{WaveformSummary}
-use Rattle.questions.specs.Waveforms.{waveform_number, get_waveform_summary_of}
+use Rattle.sampler.specs.Refusals.{good_sampler, good_with, no_channel, channel_judged, channel_number}
+use Rattle.questions.specs.Waveforms.{waveform_rows, waveform_judged, waveform_number, get_waveform_summary_of}
 use Rattle.questions.specs.Questions.{
-  counted_number,
-  told_number,
-  offset_number,
-  answered,
   get_frames_processed_of,
   get_data_len_of,
   is_recording_of,
@@ -25,40 +22,37 @@ use Rattle.questions.specs.Questions.{
   list_counted,
   info_number,
   get_voice_info_of,
-  voice_infos_of,
 }
 
-answered_number : {R : Type 0} (number_of : R → ℕ) (done : R) (refused : ℕ → R) (number : ℕ) → number_of done ≡ 0
-    → ((n : ℕ) → number_of (refused n) ≡ n) → number_of (answered done refused number) ≡ number
-unfolding answered
-answered_number number_of done refused number d r = go (eqb number 0) refl
-  where
-    go : (b : Bool) → eqb number 0 ≡ b → number_of (answered done refused number) ≡ number
-    go true e = simp e (d ∙ sym (eqb-true number 0 e))
-    go false e = simp e (r number)
+module _ {A : Type 0} (x : A) where
+  two_rows : (a b : Bool) → code_of (row a Broken (row b NoChannel (Ok x))) ≡ code_of {A = Unit {0}} (row a Broken (row b NoChannel (Ok tt)))
+  two_rows true b = refl
+  two_rows false true = refl
+  two_rows false false = refl
+
+  three_rows : (a b c : Bool) → code_of (row a Broken (row b TooManyColumns (row c ShortList (Ok x)))) ≡ code_of {A = Unit {0}} (row a Broken (row b TooManyColumns (row c ShortList (Ok tt))))
+  three_rows true b c = refl
+  three_rows false true c = refl
+  three_rows false false true = refl
+  three_rows false false false = refl
 
 module _ (s : Sampler) (j : ℕ) where
-  pub frames_number : counted_number (get_frames_processed_of s j) ≡ channel_number s j
-  frames_number = answered_number counted_number _ _ (channel_number s j) refl (λ n. refl)
+  pub frames_number : code_of (get_frames_processed_of s j) ≡ channel_number s j
+  unfolding channel_judged
+  frames_number = two_rows _ (not (good_sampler s)) (no_channel s j)
 
-  pub data_len_number : counted_number (get_data_len_of s j) ≡ channel_number s j
-  data_len_number = answered_number counted_number _ _ (channel_number s j) refl (λ n. refl)
+  pub data_len_number : code_of (get_data_len_of s j) ≡ channel_number s j
+  unfolding channel_judged
+  data_len_number = two_rows _ (not (good_sampler s)) (no_channel s j)
 
-  pub recording_number : told_number (is_recording_of s j) ≡ channel_number s j
-  recording_number = answered_number told_number _ _ (channel_number s j) refl (λ n. refl)
+  pub recording_number : code_of (is_recording_of s j) ≡ channel_number s j
+  unfolding channel_judged
+  recording_number = two_rows _ (not (good_sampler s)) (no_channel s j)
 
-  pub offset_number_lem : offset_number (get_last_recorded_offset_of s j) ≡ channel_number s j
-  offset_number_lem = answered_number offset_number _ _ (channel_number s j) refl (λ n. refl)
+  pub offset_number_lem : code_of (get_last_recorded_offset_of s j) ≡ channel_number s j
+  unfolding channel_judged
+  offset_number_lem = two_rows _ (not (good_sampler s)) (no_channel s j)
 
-  -- error text and active notes
-  pub list_number_lem : (answer : List ℕ) (room : ℕ) → counted_number (list_counted s j answer room) ≡ list_number s j answer room
-  unfolding list_counted
-  list_number_lem answer room = answered_number counted_number _ _ (list_number s j answer room) refl (λ n. refl)
-
-  pub info_number_lem : (p : Params) (room : ℕ) → (get_voice_info_of s j p room).number ≡ info_number s j p room
-  unfolding get_voice_info_of voice_infos_of
-  info_number_lem p room = answered_number (λ (r : VoiceInfos). r.number) _ _ (info_number s j p room) refl (λ n. refl)
-
-pub summary_number : (s : Sampler) (columns room : ℕ) (m : List ℕ) → (get_waveform_summary_of s columns room m).number ≡ waveform_number s columns room (length m)
-unfolding get_waveform_summary_of
-summary_number s columns room m = answered_number (λ (r : WaveformSummary). r.number) _ _ (waveform_number s columns room (length m)) refl (λ n. refl)
+pub summary_number : (s : Sampler) (columns room : ℕ) (m : List ℕ) → code_of (get_waveform_summary_of s columns room m) ≡ waveform_number s columns room (length m)
+unfolding get_waveform_summary_of waveform_judged
+summary_number s columns room m = three_rows _ (not (good_with s (length m))) (ltb 4096 columns) (ltb room columns)

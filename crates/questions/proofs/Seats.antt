@@ -9,17 +9,17 @@ use borrow.Author.Tests.{eqb-true, leb-true}
 use lib.Dec.{eqb, leb}
 use lib.ListN.{length, take, drop}
 use lib.Ieee.{Float}
+use Rattle.std.specs.Prelude.{Ok}
 use Rattle.walks.proofs.Lists.Every.{both}
 use Rattle.phrases.specs.Phrases.{stored_in}
 use Rattle.phrases.proofs.Rooms.{ends_inside, inside_ends}
 use Rattle.channel.specs.Heads.{recording_in}
 use Rattle.sampler.specs.declared.Sampler.{Sampler}
 use Rattle.sampler.specs.Refusals.{channel_at, good_sizes, good_sampler, good_with}
-use Rattle.sampler.proofs.Rows.{passed, is_true, good_sizes_lem, fitting}
+use Rattle.sampler.proofs.Rows.{good_sizes_lem, fitting}
 use Rattle.sampler.proofs.Channels.{recording_within}
-use Rattle.questions.specs.Questions.{answered}
-use Rattle.questions.specs.Waveforms.{columns_of, summary_by, values_after_by, waveform_number, waveform_of, get_waveform_summary_of, waveform_after}
-use Rattle.questions.specs.Sights.{seen_of, in_part, sound_in, good_in, waveform_number_in, values_in, waveform_in, waveform_left}
+use Rattle.questions.specs.Waveforms.{columns_of, summary_of, values_after_by, waveform_rows, waveform_judged, waveform_of, get_waveform_summary_of, waveform_after}
+use Rattle.questions.specs.Sights.{seen_of, in_part, sound_in, good_in, values_in, waveform_in, waveform_left}
 use Rattle.questions.specs.declared.Seen.{Seen}
 use Rattle.questions.proofs.Stored.{stored_at}
 
@@ -114,29 +114,19 @@ module _ (s : Sampler) where
         stored_at s 0 m (recording_in head) (recording_within s 0 w.good w.some)
         ∙ ap (λ (a : ℕ). take head.data_len (drop a m)) (ap (λ (front : ℕ). front + head.start) (zero-mul s.capacity) ∙ zero-add head.start)))
 
-    module _ (room : ℕ) where
-      number_seen : waveform_number_in (seen_of s) columns room (length m) ≡ waveform_number s columns room (length m)
-      unfolding waveform_number
-      number_seen = rw (good_seen (length m)) refl
-
-      done : waveform_number s columns room (length m) ≡ 0 → good_with s (length m) ≡ true
-      unfolding waveform_number
-      done z = is_true _ (passed (not (good_with s (length m))) 8 _ z).0
-
-      -- an answer by its number, which shows the values where that is 0
-      by_number : {R : Type 0} (F : List Float → ℕ → R) → ((v v' : List Float) (n : ℕ) → eqb n 0 ≡ false → F v n ≡ F v' n)
-          → F (values_in (seen_of s) columns m) (waveform_number_in (seen_of s) columns room (length m)) ≡ F (waveform_of s columns m) (waveform_number s columns room (length m))
-      by_number F refused = ap (F (values_in (seen_of s) columns m)) number_seen ∙ go (eqb (waveform_number s columns room (length m)) 0) refl
-        where
-          go : (b : Bool) → eqb (waveform_number s columns room (length m)) 0 ≡ b
-              → F (values_in (seen_of s) columns m) (waveform_number s columns room (length m)) ≡ F (waveform_of s columns m) (waveform_number s columns room (length m))
-          go true e = ap (λ (v : List Float). F v (waveform_number s columns room (length m))) (values_seen (done (eqb-true _ 0 e)))
-          go false e = refused _ _ _ e
+    -- an answer that shows the values where record and memory are good
+    by_good : {R : Type 0} (F : Bool → List Float → R) → ((v w : List Float) → F false v ≡ F false w)
+        → F (good_in (seen_of s) (length m)) (values_in (seen_of s) columns m) ≡ F (good_with s (length m)) (waveform_of s columns m)
+    by_good F broken = ap (λ (b : Bool). F b (values_in (seen_of s) columns m)) (good_seen (length m)) ∙ go (good_with s (length m)) refl
+      where
+        go : (b : Bool) → good_with s (length m) ≡ b → F b (values_in (seen_of s) columns m) ≡ F b (waveform_of s columns m)
+        go true e = ap (F true) (values_seen e)
+        go false e = broken _ _
 
   pub waveform_seen : (columns room : ℕ) (m : List ℕ) → waveform_in (seen_of s) columns room m ≡ get_waveform_summary_of s columns room m
-  unfolding get_waveform_summary_of answered
-  waveform_seen columns room m = by_number columns m room summary_by (λ v v' n e. simp e)
+  unfolding get_waveform_summary_of
+  waveform_seen columns room m = by_good columns m (λ good v. waveform_rows good columns room (Ok (summary_of v))) (λ v w. refl)
 
   pub list_seen : (columns : ℕ) (list : List Float) (m : List ℕ) → waveform_left (seen_of s) columns list m ≡ waveform_after s columns list m
-  unfolding waveform_after
-  list_seen columns list m = by_number columns m (length list) (λ v n. values_after_by v list n) (λ v v' n e. simp e)
+  unfolding waveform_after waveform_judged
+  list_seen columns list m = by_good columns m (λ good v. values_after_by v list (waveform_rows good columns (length list) (Ok tt))) (λ v w. refl)

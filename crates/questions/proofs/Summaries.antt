@@ -5,7 +5,7 @@ use mathlib.Core.List.{List}
 use Prim.Native.Nat.{ℕ, zero, suc, ◌+◌, ◌-◌, ◌^◌, ◌≤◌}
 use native.Mathlib.Nat.{le_trans, le_of_eq, zero-mul, add-sub_cancel_left}
 use native.Mathlib.Omega.{arith}
-use borrow.Author.Tests.{ne_eqb, ltb-false}
+use borrow.Author.Tests.{ltb-false}
 use lib.Dec.{T, ltb}
 use lib.ListN.{length, take, drop, length-take}
 use lib.Seq.{sets, length-sets, length-take-le, take_at}
@@ -14,16 +14,21 @@ use Rattle.binary32.specs.Leaves.{zero32, min_of, root_of}
 use Rattle.binary32.proofs.Between.{le_not_lt}
 use Rattle.binary32.proofs.Rounding.{round_sign, round_not_nan}
 use Rattle.binary32.proofs.Signs.{unsigned}
-use Rattle.walks.specs.Walks.{fold}
+use Rattle.std.specs.List.{fold}
 use Rattle.walks.proofs.Tests.{denied}
 use Rattle.walks.proofs.Lists.Runs.{run_front}
 use Rattle.phrases.specs.Phrases.{stored_in}
 use Rattle.sampler.specs.declared.Sampler.{Sampler}
-use Rattle.sampler.specs.Refusals.{row}
-use Rattle.sampler.proofs.Rows.{passed, is_true}
-use Rattle.questions.specs.Questions.{answered, in_front}
-use Rattle.questions.specs.Waveforms.{column_of, column_at, columns_from, columns_of, smallest_of, largest_of, summary_with, waveform_number, waveform_of, get_waveform_summary_of, waveform_after}
-use Rattle.questions.specs.Sights.{good_in, waveform_number_in, values_in, waveform_in, waveform_left}
+use Rattle.std.specs.Prelude.{Result, Ok}
+use Rattle.refusals.specs.declared.Refusal.{Refusal}
+use Rattle.refusals.specs.declared.Refusal.TheVariants.{ShortList, Broken, TooManyColumns}
+use Rattle.refusals.specs.Refusals.{code_of, row}
+use Rattle.refusals.proofs.Codes.{passed}
+use Rattle.sampler.specs.Refusals.{good_with}
+use Rattle.sampler.proofs.Rows.{is_true}
+use Rattle.questions.specs.Questions.{in_front}
+use Rattle.questions.specs.Waveforms.{column_of, column_at, columns_from, columns_of, smallest_of, largest_of, summary_with, waveform_judged, waveform_number, waveform_of, get_waveform_summary_of, waveform_after}
+use Rattle.questions.specs.Sights.{good_in, waveform_judged_in, values_in, waveform_in, waveform_left}
 use Rattle.questions.specs.declared.Seen.{Seen}
 use Rattle.questions.specs.declared.WaveformSummary.{WaveformSummary}
 use Rattle.questions.proofs.Seats.{Seated, seated}
@@ -60,20 +65,24 @@ unfolding column_at column_of
 column_above columns recording i = root_above _
 
 pub smallest_zero : (columns : ℕ) (recording : List ℕ) (count i : ℕ) → smallest_of (columns_from columns recording count i) ≡ zero32
-unfolding columns_from fold
+unfolding columns_from
 smallest_zero columns recording zero i = refl
 smallest_zero columns recording (suc count) i =
     ap (λ (x : Float). fold min_of x (columns_from columns recording count (i + 1))) (least_on (column_at columns recording i) (column_above columns recording i)) ∙ smallest_zero columns recording count (i + 1)
 
 -- ---- of a record: r is the answer, and `after` the lent list afterwards
 module _ (s : Sampler) (columns : ℕ) (list : List Float) (m : List ℕ) where
-  abbrev pub Answers : WaveformSummary → List Float → Type 0
+  abbrev pub Answers : Result WaveformSummary Refusal → List Float → Type 0
   Answers r after = (r ≡ get_waveform_summary_of s columns (length list) m) × (after ≡ waveform_after s columns list m)
 
   pub waveform_done : waveform_number s columns (length list) (length m) ≡ 0
-      → Answers (summary_with (smallest_of (waveform_of s columns m)) (largest_of (waveform_of s columns m)) 0) (in_front (waveform_of s columns m) list)
-  unfolding get_waveform_summary_of waveform_after answered
-  waveform_done e = (simp e, simp e)
+      → Answers (Ok (summary_with (smallest_of (waveform_of s columns m)) (largest_of (waveform_of s columns m)))) (in_front (waveform_of s columns m) list)
+  unfolding get_waveform_summary_of waveform_after waveform_judged
+  waveform_done z =
+      let good = passed (not (good_with s (length m))) Broken _ z in
+      let many = passed (ltb 4096 columns) TooManyColumns _ good.1 in
+      let short = (passed (ltb (length list) columns) ShortList (Ok tt) many.1).0 in
+      (simp (good.0, many.0, short), simp (good.0, many.0, short))
 
 -- ---- of what is seen of it
 module _ (t : Seen) (columns : ℕ) (list : List Float) (m : List ℕ) where
@@ -83,26 +92,25 @@ module _ (t : Seen) (columns : ℕ) (list : List Float) (m : List ℕ) where
   abbrev samples : ℕ
   samples = t.first.data_len
 
-  abbrev pub AnswersIn : WaveformSummary → List Float → Type 0
+  abbrev pub AnswersIn : Result WaveformSummary Refusal → List Float → Type 0
   AnswersIn r after = (r ≡ waveform_in t columns (length list) m) × (after ≡ waveform_left t columns list m)
 
-  pub waveform_refused : (number : ℕ) → number ≡ waveform_number_in t columns (length list) (length m) → (number ≡ 0 → ⊥) → AnswersIn (summary_with zero32 zero32 number) list
-  unfolding answered
-  waveform_refused number e h = (simp (← e, ne_eqb number 0 h), simp (← e, ne_eqb number 0 h))
-
   -- what is done where the number is 0
-  module _ (z : waveform_number_in t columns (length list) (length m) ≡ 0) where
+  module _ (z : code_of (waveform_judged_in t columns (length list) (length m)) ≡ 0) where
     good : good_in t (length m) ≡ true
-    good = is_true (good_in t (length m)) (passed (not (good_in t (length m))) 8 _ z).0
+    good = is_true (good_in t (length m)) (passed (not (good_in t (length m))) Broken _ z).0
 
-    many : (ltb 4096 columns ≡ false) × (row (ltb (length list) columns) 8 0 ≡ 0)
-    many = passed (ltb 4096 columns) 10 _ (passed (not (good_in t (length m))) 8 _ z).1
+    many : (ltb 4096 columns ≡ false) × (code_of {A = Unit {0}} (row (ltb (length list) columns) ShortList (Ok tt)) ≡ 0)
+    many = passed (ltb 4096 columns) TooManyColumns _ (passed (not (good_in t (length m))) Broken _ z).1
 
     most : columns ≤ 4096
     most = ltb-false 4096 columns many.0
 
+    short : ltb (length list) columns ≡ false
+    short = (passed (ltb (length list) columns) ShortList (Ok tt) many.1).0
+
     room : columns ≤ length list
-    room = ltb-false (length list) columns (passed (ltb (length list) columns) 7 _ many.1).0
+    room = ltb-false (length list) columns short
 
     w : Seated t (length m)
     w = seated t (length m) good
@@ -141,9 +149,8 @@ module _ (t : Seen) (columns : ℕ) (list : List Float) (m : List ℕ) where
       written : take columns last ≡ columns_of columns recording
       written = ap (take columns) fronted ∙ take_at (columns_of columns recording) _ columns count
 
-      pub summary_done : (most : Float) → most ≡ largest_of (take columns last) → AnswersIn (summary_with zero32 most 0) last
-      unfolding answered
+      pub summary_done : (most : Float) → most ≡ largest_of (take columns last) → AnswersIn (Ok (summary_with zero32 most)) last
       summary_done most h =
           let smallest = sym (smallest_zero columns recording columns 0) ∙ ap smallest_of values in
           let largest = h ∙ ap largest_of (written ∙ values) in
-          (rw z (ap₂ (λ (a b : Float). summary_with a b 0) smallest largest), rw z (fronted ∙ ap (λ (v : List Float). in_front v list) values))
+          (rw (good, many.0, short) (ap₂ (λ (a b : Float). Ok (summary_with a b)) smallest largest), rw (good, many.0, short) (fronted ∙ ap (λ (v : List Float). in_front v list) values))

@@ -1,9 +1,12 @@
 -- What each question of the sampler answers (document 01, module 6), and its refusals in the table's order. Definitions
 -- only. Assumes nothing.
-use Rattle.std.specs.Prelude.{ℕ, Bool, not, cond, List, map, ◌++◌, eqb, ltb, length, drop, replicate, Float}
+use Rattle.std.specs.Prelude.{ℕ, Bool, not, cond, List, map, ◌++◌, ltb, length, drop, replicate, Float, Option, Result, Ok, is_ok}
 use Rattle.std.specs.Float.{binary32}
 use Rattle.std.specs.Float.Ieee.{add, div, rem}
 use Rattle.binary32.specs.Leaves.{as_float, zero32, one32}
+use Rattle.refusals.specs.declared.Refusal.{Refusal}
+use Rattle.refusals.specs.declared.Refusal.TheVariants.{NoChannel, BeyondLimits, ShortList, Broken}
+use Rattle.refusals.specs.Refusals.{code_of, row}
 use Rattle.walks.specs.Walks.{without}
 use Rattle.common_types.specs.declared.Params.{Params}
 use Rattle.common_types.specs.Notes.{into_u64_of}
@@ -16,32 +19,9 @@ use Rattle.voice.specs.declared.Voice.{Voice}
 use Rattle.channel.specs.declared.Channel.{Channel}
 use Rattle.channel.specs.Channels.{live, phrase_at}
 use Rattle.sampler.specs.declared.Sampler.{Sampler}
-use Rattle.sampler.specs.Refusals.{channel_at, row, good_sampler, no_channel, channel_number}
+use Rattle.sampler.specs.Refusals.{channel_at, good_sampler, no_channel, question_rows}
 use Rattle.questions.specs.declared.VoiceInfo.{VoiceInfo}
 use Rattle.questions.specs.declared.VoiceInfos.{VoiceInfos}
-use Rattle.questions.specs.declared.Counted.{Counted}
-use Rattle.questions.specs.declared.Counted.TheVariants as counted
-use Rattle.questions.specs.declared.Told.{Told}
-use Rattle.questions.specs.declared.Told.TheVariants as told
-use Rattle.questions.specs.declared.OffsetAnswer.{OffsetAnswer}
-use Rattle.questions.specs.declared.OffsetAnswer.TheVariants as offset
-
--- ---- document 01's number for each answer
-abbrev pub counted_number : Counted → ℕ
-counted_number (counted.Done n) = 0
-counted_number (counted.Refused number) = number
-
-abbrev pub told_number : Told → ℕ
-told_number (told.Done b) = 0
-told_number (told.Refused number) = number
-
-abbrev pub offset_number : OffsetAnswer → ℕ
-offset_number (offset.Done o) = 0
-offset_number (offset.Refused number) = number
-
--- ---- an answer that is given where its number is 0
-unfoldable pub answered : {R : Type 0} → R → (ℕ → R) → ℕ → R
-answered done refused number = cond (eqb number 0) done (refused number)
 
 -- ---- an answer in the front of a list, whose rest is kept
 abbrev pub in_front : {A : Type 0} → List A → List A → List A
@@ -51,40 +31,37 @@ in_front answer l = answer ++ drop (length answer) l
 abbrev pub recorder_at : Sampler → ℕ → Recorder
 recorder_at s j = (channel_at s j).head.recorder
 
-abbrev pub get_frames_processed_of : Sampler → ℕ → Counted
-get_frames_processed_of s j = answered (counted.Done (channel_at s j).head.now) counted.Refused (channel_number s j)
+abbrev pub get_frames_processed_of : Sampler → ℕ → Result ℕ Refusal
+get_frames_processed_of s j = question_rows s j (Ok (channel_at s j).head.now)
 
-abbrev pub get_data_len_of : Sampler → ℕ → Counted
-get_data_len_of s j = answered (counted.Done (channel_at s j).head.data_len) counted.Refused (channel_number s j)
+abbrev pub get_data_len_of : Sampler → ℕ → Result ℕ Refusal
+get_data_len_of s j = question_rows s j (Ok (channel_at s j).head.data_len)
 
-abbrev pub is_recording_of : Sampler → ℕ → Told
-is_recording_of s j = answered (told.Done (records_of (recorder_at s j))) told.Refused (channel_number s j)
+abbrev pub is_recording_of : Sampler → ℕ → Result Bool Refusal
+is_recording_of s j = question_rows s j (Ok (records_of (recorder_at s j)))
 
-abbrev pub get_last_recorded_offset_of : Sampler → ℕ → OffsetAnswer
-get_last_recorded_offset_of s j = answered (offset.Done (last_recorded_offset_of (recorder_at s j))) offset.Refused
-    (channel_number s j)
+abbrev pub get_last_recorded_offset_of : Sampler → ℕ → Result (Option ℕ) Refusal
+get_last_recorded_offset_of s j = question_rows s j (Ok (last_recorded_offset_of (recorder_at s j)))
 
 -- ---- questions whose answer is a list, to be written to a lent one with that much room:
 -- how long it is, and the lent list afterwards
-abbrev pub list_number_by : Bool → Bool → List ℕ → ℕ → ℕ
-list_number_by broken absent answer room = row broken 9 (row absent 1 (row (ltb room (length answer)) 8 0))
+abbrev pub list_counted_by : Bool → Bool → List ℕ → ℕ → Result ℕ Refusal
+list_counted_by broken absent answer room =
+    row broken Broken (row absent NoChannel (row (ltb room (length answer)) ShortList (Ok (length answer))))
 
-abbrev pub list_counted_by : List ℕ → ℕ → Counted
-list_counted_by answer number = answered (counted.Done (length answer)) counted.Refused number
+abbrev pub list_after_by : List ℕ → List ℕ → Result ℕ Refusal → List ℕ
+list_after_by answer lent counted = cond (is_ok counted) (in_front answer lent) lent
 
-abbrev pub list_after_by : List ℕ → List ℕ → ℕ → List ℕ
-list_after_by answer lent number = cond (eqb number 0) (in_front answer lent) lent
+unfoldable pub list_counted : Sampler → ℕ → List ℕ → ℕ → Result ℕ Refusal
+list_counted s j = list_counted_by (not (good_sampler s)) (no_channel s j)
 
-unfoldable pub list_number : Sampler → ℕ → List ℕ → ℕ → ℕ
-list_number s j = list_number_by (not (good_sampler s)) (no_channel s j)
-
-unfoldable pub list_counted : Sampler → ℕ → List ℕ → ℕ → Counted
-list_counted s j answer room = list_counted_by answer (list_number s j answer room)
+abbrev pub list_number : Sampler → ℕ → List ℕ → ℕ → ℕ
+list_number s j answer room = code_of (list_counted s j answer room)
 
 unfoldable pub list_after : Sampler → ℕ → List ℕ → List ℕ → List ℕ
-list_after s j answer lent = list_after_by answer lent (list_number s j answer (length lent))
+list_after s j answer lent = list_after_by answer lent (list_counted s j answer (length lent))
 
-abbrev pub print_error_info_of : Sampler → ℕ → ℕ → Counted
+abbrev pub print_error_info_of : Sampler → ℕ → ℕ → Result ℕ Refusal
 print_error_info_of s j room = list_counted s j (error_text (recorder_at s j)) room
 
 abbrev pub error_text_after : Sampler → ℕ → List ℕ → List ℕ
@@ -94,7 +71,7 @@ error_text_after s j text = list_after s j (error_text (recorder_at s j)) text
 unfoldable pub notes_of : List Voice → List ℕ
 notes_of vs = map (λ (v : Voice). into_u64_of v.note) (without (λ (v : Voice). v.finished) vs)
 
-abbrev pub iter_active_notes_of : Sampler → ℕ → ℕ → Counted
+abbrev pub iter_active_notes_of : Sampler → ℕ → ℕ → Result ℕ Refusal
 iter_active_notes_of s j room = list_counted s j (notes_of (live (channel_at s j))) room
 
 abbrev pub active_notes_after : Sampler → ℕ → List ℕ → List ℕ
@@ -114,8 +91,8 @@ no_info = record { start = zero32; end = zero32; pos = zero32 }
 abbrev pub no_infos : List VoiceInfo
 no_infos = replicate 32 no_info
 
-abbrev pub infos_with : List VoiceInfo → ℕ → ℕ → VoiceInfos
-infos_with infos count number = record { infos = infos; count = count; number = number }
+abbrev pub infos_with : List VoiceInfo → ℕ → VoiceInfos
+infos_with infos count = record { infos = infos; count = count }
 
 -- of the voice's phrase on channel c; the loop length is worked out from channel a's phrase of that number
 unfoldable pub figures_of : Params → Channel → Channel → Voice → VoiceInfo
@@ -124,14 +101,14 @@ figures_of p a c v =
 
 -- as many as the channel has voices, in the front of 32
 unfoldable pub voice_infos_of : Params → Channel → Channel → VoiceInfos
-voice_infos_of p a c = infos_with (in_front (map (figures_of p a c) (live c)) no_infos) c.count 0
-
-unfoldable pub info_number : Sampler → ℕ → Params → ℕ → ℕ
-info_number s j p room =
-    row (not (good_sampler s)) 9
-    (row (no_channel s j) 1 (row (beyond_limits p) 4 (row (ltb room (channel_at s j).count) 8 0)))
+voice_infos_of p a c = infos_with (in_front (map (figures_of p a c) (live c)) no_infos) c.count
 
 -- "Voice info uses the voice's phrase number, on channel 0 and on the asked channel" (request 11/12)
-unfoldable pub get_voice_info_of : Sampler → ℕ → Params → ℕ → VoiceInfos
+unfoldable pub get_voice_info_of : Sampler → ℕ → Params → ℕ → Result VoiceInfos Refusal
 get_voice_info_of s j p room =
-    answered (voice_infos_of p (channel_at s 0) (channel_at s j)) (infos_with no_infos 0) (info_number s j p room)
+    question_rows s j
+    (row (beyond_limits p) BeyondLimits
+    (row (ltb room (channel_at s j).count) ShortList (Ok (voice_infos_of p (channel_at s 0) (channel_at s j)))))
+
+abbrev pub info_number : Sampler → ℕ → Params → ℕ → ℕ
+info_number s j p room = code_of (get_voice_info_of s j p room)

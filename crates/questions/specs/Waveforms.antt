@@ -1,16 +1,19 @@
 -- The waveform summary of channel 0's recording (request 1/12; get_waveform_summary of the Rust's sampler.rs): for each
 -- column the root of its samples' mean square, and the smallest and the largest of these. All of it is binary32
 -- arithmetic, operation by operation. Definitions only. Assumes nothing.
-use Rattle.std.specs.Prelude.{ℕ, zero, suc, ◌+◌, ◌-◌, Bool, not, cond, List, [], ◌∷◌, map, eqb, ltb, length, take, drop, Float}
+use Rattle.std.specs.Prelude.{ℕ, zero, suc, ◌+◌, ◌-◌, Bool, not, cond, List, [], ◌∷◌, map, ltb, length, take, drop, Float, Result, Ok, is_ok}
 use Rattle.std.specs.Float.{binary32}
 use Rattle.std.specs.Float.Ieee.{add, mul, div}
 use Rattle.binary32.specs.Leaves.{as_float, as_whole, floor_of, float_of, min_of, max_of, root_of, zero32}
-use Rattle.walks.specs.Walks.{fold}
+use Rattle.std.specs.List.{fold}
+use Rattle.refusals.specs.declared.Refusal.{Refusal}
+use Rattle.refusals.specs.declared.Refusal.TheVariants.{ShortList, Broken, TooManyColumns}
+use Rattle.refusals.specs.Refusals.{code_of, row}
 use Rattle.channel.specs.Channels.{recording_of}
 use Rattle.sampler.specs.declared.Sampler.{Sampler}
-use Rattle.sampler.specs.Refusals.{channel_at, row, good_with}
+use Rattle.sampler.specs.Refusals.{channel_at, good_with}
 use Rattle.sampler.specs.Samplers.{part_of}
-use Rattle.questions.specs.Questions.{answered, in_front}
+use Rattle.questions.specs.Questions.{in_front}
 use Rattle.questions.specs.declared.WaveformSummary.{WaveformSummary}
 
 -- ---- the cuts
@@ -59,36 +62,39 @@ smallest_of values = fold min_of zero32 values
 abbrev pub largest_of : List Float → Float
 largest_of values = fold max_of zero32 values
 
-abbrev pub summary_with : Float → Float → ℕ → WaveformSummary
-summary_with smallest largest number = record { smallest = smallest; largest = largest; number = number }
+abbrev pub summary_with : Float → Float → WaveformSummary
+summary_with smallest largest = record { smallest = smallest; largest = largest }
+
+abbrev pub summary_of : List Float → WaveformSummary
+summary_of values = summary_with (smallest_of values) (largest_of values)
 
 -- ---- the question
 abbrev pub most_columns : ℕ
 most_columns = 4096
 
 -- rows 9, 11 and 8, with room for so many values
-abbrev pub waveform_rows : Bool → ℕ → ℕ → ℕ
-waveform_rows good columns room = row (not good) 9 (row (ltb most_columns columns) 11 (row (ltb room columns) 8 0))
+abbrev pub waveform_rows : {A : Type 0} → Bool → ℕ → ℕ → Result A Refusal → Result A Refusal
+waveform_rows good columns room rest =
+    row (not good) Broken (row (ltb most_columns columns) TooManyColumns (row (ltb room columns) ShortList rest))
 
--- the answer with these values, and the lent list afterwards
-abbrev pub summary_by : List Float → ℕ → WaveformSummary
-summary_by values number =
-    answered (summary_with (smallest_of values) (largest_of values) 0) (summary_with zero32 zero32) number
+-- the lent list afterwards
+abbrev pub values_after_by : List Float → List Float → Result (Unit {0}) Refusal → List Float
+values_after_by values list done = cond (is_ok done) (in_front values list) list
 
-abbrev pub values_after_by : List Float → List Float → ℕ → List Float
-values_after_by values list number = cond (eqb number 0) (in_front values list) list
+unfoldable pub waveform_judged : Sampler → ℕ → ℕ → ℕ → Result (Unit {0}) Refusal
+waveform_judged s columns room size = waveform_rows (good_with s size) columns room (Ok tt)
 
-unfoldable pub waveform_number : Sampler → ℕ → ℕ → ℕ → ℕ
-waveform_number s columns room size = waveform_rows (good_with s size) columns room
+abbrev pub waveform_number : Sampler → ℕ → ℕ → ℕ → ℕ
+waveform_number s columns room size = code_of (waveform_judged s columns room size)
 
 -- the values of channel 0's recording
 abbrev pub waveform_of : Sampler → ℕ → List ℕ → List Float
 waveform_of s columns m = columns_of columns (recording_of (channel_at s 0) (part_of s 0 m))
 
-unfoldable pub get_waveform_summary_of : Sampler → ℕ → ℕ → List ℕ → WaveformSummary
-get_waveform_summary_of s columns room m = summary_by (waveform_of s columns m) (waveform_number s columns room (length m))
+unfoldable pub get_waveform_summary_of : Sampler → ℕ → ℕ → List ℕ → Result WaveformSummary Refusal
+get_waveform_summary_of s columns room m =
+    waveform_rows (good_with s (length m)) columns room (Ok (summary_of (waveform_of s columns m)))
 
--- the lent list afterwards
 unfoldable pub waveform_after : Sampler → ℕ → List Float → List ℕ → List Float
 waveform_after s columns list m =
-    values_after_by (waveform_of s columns m) list (waveform_number s columns (length list) (length m))
+    values_after_by (waveform_of s columns m) list (waveform_judged s columns (length list) (length m))

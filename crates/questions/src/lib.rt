@@ -2,17 +2,18 @@
 // takes every value of its arguments, and equals a definition in specs/. On a refusal a lent list holds what it held.
 #![tactic(auto)]
 
-ghost use Rattle.std.specs.Prelude.{◌≡◌, ◌+◌, ◌^◌, ◌≤◌, not, [], ◌∷◌, map, ltb, length};
+ghost use Rattle.std.specs.Prelude.{◌≡◌, ◌+◌, ◌^◌, ◌≤◌, not, [], ◌∷◌, map, ltb, length, Ok};
 ghost use Rattle.std.specs.Float.{binary32};
 ghost use Rattle.std.specs.Float.Ieee.{mul};
 ghost use Rattle.std.proofs.lemmas.List.Edits.{sets};
+ghost use Rattle.refusals.specs.declared.Refusal.TheVariants.{NoChannel, Broken};
+ghost use Rattle.refusals.specs.Refusals.{row};
 ghost use Rattle.binary32.specs.Leaves.{as_float, as_whole, floor_of, float_of};
 ghost use Rattle.channel.specs.Channels.{live};
-ghost use Rattle.sampler.specs.Refusals.{channel_at, row, good_sampler, no_channel};
+ghost use Rattle.sampler.specs.Refusals.{channel_at};
 ghost use Rattle.questions.specs.Sights.{
   seen_of,
   head_in,
-  channel_rows,
   frames_in,
   length_in,
   records_in,
@@ -22,7 +23,7 @@ ghost use Rattle.questions.specs.Sights.{
   in_part,
   sound_in,
   good_in,
-  waveform_number_in,
+  waveform_judged_in,
   waveform_in,
   waveform_left,
 };
@@ -39,7 +40,6 @@ ghost use Rattle.questions.specs.Questions.{
   voice_info_of,
   no_info,
   no_infos,
-  infos_with,
   voice_infos_of,
   get_voice_info_of,
 };
@@ -48,35 +48,16 @@ ghost use Rattle.questions.specs.Waveforms.{
   column_of,
   columns_of,
   largest_of,
-  summary_with,
   get_waveform_summary_of,
   waveform_after,
 };
 
 use channel::{Channel, Head};
 use common_types::{InitParams, Params};
-use recorder::{LastOffset, Recorder, Text};
-use sampler::{Sampler, first_of};
+use recorder::Recorder;
+use refusals::Refusal;
+use sampler::Sampler;
 use voice::Voice;
-
-// Each answer is Done, or the number of its refusal.
-#[derive(Clone, Copy)]
-pub enum Counted {
-    Done(usize),
-    Refused(u8),
-}
-
-#[derive(Clone, Copy)]
-pub enum Told {
-    Done(bool),
-    Refused(u8),
-}
-
-#[derive(Clone, Copy)]
-pub enum OffsetAnswer {
-    Done(LastOffset),
-    Refused(u8),
-}
 
 // The figures of one voice, as parts of the recording.
 #[derive(Clone, Copy)]
@@ -86,10 +67,10 @@ pub struct VoiceInfo {
     pub pos: f32,
 }
 
-impl VoiceInfo {
-    pub fn default() -> Self
-        ensures { result ≡ no_info }
-    {
+impl Default for VoiceInfo {
+    ghost is_default = { λ info. info ≡ no_info };
+
+    fn default() -> Self {
         Self {
             start: 0.0,
             end: 0.0,
@@ -103,7 +84,6 @@ impl VoiceInfo {
 pub struct VoiceInfos {
     pub infos: [VoiceInfo; 32],
     pub count: usize,
-    pub number: u8,
 }
 
 // What the questions of a recording ask of a record: whether it is good, what it says of itself, and the heads of its two
@@ -131,19 +111,12 @@ pub fn look(s: Sampler) -> Seen
     }
 }
 
-// The rows that each question begins with, and then the rest.
-fn rows(good: bool, count: usize, channel: usize, rest: u8) -> u8
-    ensures { result ≡ row (not good) 9 (row (not (ltb channel count)) 1 rest) }
+// The rows that each question begins with.
+fn rows(good: bool, count: usize, channel: usize) -> Result<(), Refusal>
+    ensures { result ≡ row (not good) Broken (row (not (ltb channel count)) NoChannel (Ok tt)) }
 {
-    let broken = !good;
-    let absent = !(channel < count);
-    first_of(broken, 9, first_of(absent, 1, rest))
-}
-
-fn asked(s: Sampler, channel: usize, rest: u8) -> u8
-    ensures { result ≡ row (not (good_sampler s)) 9 (row (no_channel s channel) 1 rest) }
-{
-    rows(s.good(), s.count, channel, rest)
+    Refusal::Broken.when(!good)?;
+    Refusal::NoChannel.when(!(channel < count))
 }
 
 // Past the last channel it is a new one, which no answer shows.
@@ -159,6 +132,7 @@ fn channel_at(s: Sampler, channel: usize) -> Channel
 }
 
 // Past the last channel it is the second's, which no answer shows.
+#[tactic(auto, unfolding(crate::specs::Sights::head_in))]
 fn head_in(t: Seen, channel: usize) -> Head
     ensures { result ≡ head_in t channel }
 {
@@ -172,95 +146,69 @@ fn recorder_in(t: Seen, channel: usize) -> Recorder
     head.recorder
 }
 
-fn number_in(t: Seen, channel: usize) -> u8
-    ensures { result ≡ channel_rows t channel }
-{
-    rows(t.good, t.count, channel, 0)
-}
-
-pub fn frames_in(t: Seen, channel: usize) -> Counted
+pub fn frames_in(t: Seen, channel: usize) -> Result<usize, Refusal>
     ensures { result ≡ frames_in t channel }
 {
-    let number = number_in(t, channel);
-    if number != 0 {
-        return Counted::Refused(number);
-    }
-    let head = head_in(t, channel);
-    Counted::Done(head.now)
+    rows(t.good, t.count, channel)?;
+    Ok(head_in(t, channel).now)
 }
 
-pub fn get_frames_processed(s: Sampler, channel: usize) -> Counted
+pub fn get_frames_processed(s: Sampler, channel: usize) -> Result<usize, Refusal>
     ensures { result ≡ get_frames_processed_of s channel }
 {
     frames_in(look(s), channel)
 }
 
-pub fn length_in(t: Seen, channel: usize) -> Counted
+pub fn length_in(t: Seen, channel: usize) -> Result<usize, Refusal>
     ensures { result ≡ length_in t channel }
 {
-    let number = number_in(t, channel);
-    if number != 0 {
-        return Counted::Refused(number);
-    }
-    let head = head_in(t, channel);
-    Counted::Done(head.data_len)
+    rows(t.good, t.count, channel)?;
+    Ok(head_in(t, channel).data_len)
 }
 
-pub fn get_data_len(s: Sampler, channel: usize) -> Counted
+pub fn get_data_len(s: Sampler, channel: usize) -> Result<usize, Refusal>
     ensures { result ≡ get_data_len_of s channel }
 {
     length_in(look(s), channel)
 }
 
-pub fn recording_in(t: Seen, channel: usize) -> Told
+pub fn recording_in(t: Seen, channel: usize) -> Result<bool, Refusal>
     ensures { result ≡ records_in t channel }
 {
-    let number = number_in(t, channel);
-    if number != 0 {
-        return Told::Refused(number);
-    }
-    Told::Done(recorder_in(t, channel).is_recording())
+    rows(t.good, t.count, channel)?;
+    Ok(recorder_in(t, channel).is_recording())
 }
 
-pub fn is_recording(s: Sampler, channel: usize) -> Told
+pub fn is_recording(s: Sampler, channel: usize) -> Result<bool, Refusal>
     ensures { result ≡ is_recording_of s channel }
 {
     recording_in(look(s), channel)
 }
 
-pub fn offset_in(t: Seen, channel: usize) -> OffsetAnswer
+// None where the channel doesn't record.
+pub fn offset_in(t: Seen, channel: usize) -> Result<Option<usize>, Refusal>
     ensures { result ≡ offset_in t channel }
 {
-    let number = number_in(t, channel);
-    if number != 0 {
-        return OffsetAnswer::Refused(number);
-    }
-    OffsetAnswer::Done(recorder_in(t, channel).last_recorded_offset())
+    rows(t.good, t.count, channel)?;
+    Ok(recorder_in(t, channel).last_recorded_offset())
 }
 
-pub fn get_last_recorded_offset(s: Sampler, channel: usize) -> OffsetAnswer
+pub fn get_last_recorded_offset(s: Sampler, channel: usize) -> Result<Option<usize>, Refusal>
     ensures { result ≡ get_last_recorded_offset_of s channel }
 {
     offset_in(look(s), channel)
 }
 
 // Writes the error text to the front of the list.
-pub fn error_in(t: Seen, channel: usize, text: &mut [u8]) -> Counted
+pub fn error_in(t: Seen, channel: usize, text: &mut [u8]) -> Result<usize, Refusal>
     ensures value { result ≡ error_in t channel (length text.old) }
     ensures text_after { text.new ≡ error_after t channel text.old }
 {
-    let number = number_in(t, channel);
-    if number != 0 {
-        return Counted::Refused(number);
-    }
-    let written = recorder_in(t, channel).print_error_info(text);
-    match written {
-        Text::Written(count) => Counted::Done(count),
-        Text::Short => Counted::Refused(8),
-    }
+    rows(t.good, t.count, channel)?;
+    recorder_in(t, channel).print_error_info(text)
 }
 
-pub fn print_error_info(s: Sampler, channel: usize, text: &mut [u8]) -> Counted
+pub fn print_error_info(s: Sampler, channel: usize, text: &mut [u8]) -> Result<usize, Refusal>
     ensures value { result ≡ print_error_info_of s channel (length text.old) }
     ensures text_after { text.new ≡ error_text_after s channel text.old }
 {
@@ -282,19 +230,17 @@ fn write_note(v: Voice, k: usize, notes: &mut [u64])
         return;
     }
     let note = v.note;
-    notes[k] = note.into_u64();
+    notes[k] = u64::from(note);
 }
 
 fn active_count(c: Channel) -> usize
     ensures { result ≡ length (notes_of (live c)) }
 {
-    let n = channel::places(c.count);
+    let n = c.count.min(32);
     let mut k = 0;
-    let mut i = 0;
-    while i < n {
+    for i in 0..n {
         let v = c.voices[i];
         k += note_count(v);
-        i += 1;
     }
     k
 }
@@ -303,33 +249,30 @@ fn write_notes(c: Channel, notes: &mut [u64])
     requires { length (notes_of (live c)) ≤ length notes.old }
     ensures { notes.new ≡ sets notes.old 0 (notes_of (live c)) }
 {
-    let n = channel::places(c.count);
+    let n = c.count.min(32);
     let mut k = 0;
-    let mut i = 0;
-    while i < n {
+    for i in 0..n {
         let v = c.voices[i];
         write_note(v, k, notes);
         k += note_count(v);
-        i += 1;
     }
 }
 
 // Writes the notes of the unfinished voices to the front of the list.
-pub fn iter_active_notes(s: Sampler, channel: usize, notes: &mut [u64]) -> Counted
+#[tactic(auto, unfolding(crate::specs::Questions::list_counted, crate::specs::Questions::list_after))]
+pub fn iter_active_notes(s: Sampler, channel: usize, notes: &mut [u64]) -> Result<usize, Refusal>
     ensures value { result ≡ iter_active_notes_of s channel (length notes.old) }
     ensures notes_after { notes.new ≡ active_notes_after s channel notes.old }
 {
     let c = channel_at(s, channel);
     let count = active_count(c);
-    let short = notes.len() < count;
-    let number = asked(s, channel, first_of(short, 8, 0));
-    if number != 0 {
-        return Counted::Refused(number);
-    }
+    rows(s.good(), s.count, channel)?;
+    Refusal::ShortList.when(notes.len() < count)?;
     write_notes(c, notes);
-    Counted::Done(count)
+    Ok(count)
 }
 
+#[tactic(auto, unfolding(crate::specs::Questions::voice_info_of))]
 pub fn voice_info(v: Voice, length: f32, data_length: f32) -> VoiceInfo
     ensures { result ≡ voice_info_of length data_length v }
 {
@@ -340,58 +283,50 @@ pub fn voice_info(v: Voice, length: f32, data_length: f32) -> VoiceInfo
     }
 }
 
-fn no_infos(count: usize, number: u8) -> VoiceInfos
-    ensures { result ≡ infos_with no_infos count number }
-{
-    let none = VoiceInfo::default();
-    VoiceInfos {
-        infos: [none; 32],
-        count,
-        number,
-    }
-}
-
 // Each voice's figures are of its own phrase; the loop length of `first`'s phrase of that number.
 fn voice_infos(c: Channel, first: Channel, params: Params) -> VoiceInfos
     ensures { result ≡ voice_infos_of params first c }
 {
-    let n = channel::places(c.count);
-    let mut answer = no_infos(c.count, 0);
-    let mut i = 0;
-    while i < n {
+    let n = c.count.min(32);
+    let mut infos = [VoiceInfo::default(); 32];
+    for i in 0..n {
         let v = c.voices[i];
         let whole = first.phrase_at(v.phrase);
         let own = c.phrase_at(v.phrase);
         let length = params.loop_length(whole.length);
-        answer.infos[i] = voice_info(v, length, binary32::usize_to_f32(own.length));
-        i += 1;
+        infos[i] = voice_info(v, length, binary32::usize_to_f32(own.length));
     }
-    answer
+    VoiceInfos {
+        infos,
+        count: c.count,
+    }
 }
 
 // The caller has a list with room for so many.
-pub fn get_voice_info(s: Sampler, channel: usize, params: Params, room: usize) -> VoiceInfos
+#[tactic(auto, unfolding(crate::specs::Questions::get_voice_info_of))]
+pub fn get_voice_info(
+    s: Sampler,
+    channel: usize,
+    params: Params,
+    room: usize,
+) -> Result<VoiceInfos, Refusal>
     ensures { result ≡ get_voice_info_of s channel params room }
 {
     let c = channel_at(s, channel);
-    let short = room < c.count;
-    let beyond = first_of(params.beyond_limits(), 4, first_of(short, 8, 0));
-    let number = asked(s, channel, beyond);
-    if number != 0 {
-        return no_infos(0, number);
-    }
-    voice_infos(c, channel_at(s, 0), params)
+    rows(s.good(), s.count, channel)?;
+    Refusal::BeyondLimits.when(params.beyond_limits())?;
+    Refusal::ShortList.when(room < c.count)?;
+    Ok(voice_infos(c, channel_at(s, 0), params))
 }
 
 // The most columns of a waveform summary.
 const MOST_COLUMNS: usize = 4096;
 
-// The smallest and the largest of a waveform's columns; on a refusal both are 0.
+// The smallest and the largest of a waveform's columns.
 #[derive(Clone, Copy)]
 pub struct WaveformSummary {
     pub smallest: f32,
     pub largest: f32,
-    pub number: u8,
 }
 
 // The sum of the squares. That a sample may be NaN costs the loop a comparison, and no branch: the compiler takes several
@@ -399,17 +334,15 @@ pub struct WaveformSummary {
 fn squares(samples: &[u32]) -> f32
     ensures { result ≡ squares_of (map float_of samples.now) }
 {
-    let n = samples.len();
     let mut total = 0.0;
-    let mut i = 0;
-    while i < n {
-        let x = binary32::from_bits(samples[i]);
+    for bits in samples {
+        let x = binary32::from_bits(*bits);
         total = total + x * x;
-        i += 1;
     }
     total
 }
 
+#[tactic(auto, unfolding(crate::specs::Waveforms::column_of))]
 fn column(samples: &[u32]) -> f32
     ensures { result ≡ column_of (map float_of samples.now) }
 {
@@ -430,26 +363,19 @@ fn write_columns(recording: &[u32], columns: usize, list: &mut [f32])
 {
     let step = binary32::usize_to_f32(recording.len()) / binary32::usize_to_f32(columns);
     let mut start = 0;
-    let mut i = 0;
-    while i < columns {
+    for i in 0..columns {
         let end = cut(step, i + 1);
         list[i] = column(&recording[start..end]);
         start = end;
-        i += 1;
     }
 }
 
 fn largest(values: &[f32]) -> f32
     ensures { result ≡ largest_of values.now }
 {
-    let n = values.len();
-    let mut most = 0.0;
-    let mut i = 0;
-    while i < n {
-        most = binary32::max(most, values[i]);
-        i += 1;
-    }
-    most
+    values
+        .iter()
+        .fold(0.0, |most, value| binary32::max(most, *value))
 }
 
 // Whether a recording stands in its channel's part.
@@ -462,60 +388,51 @@ fn in_part(head: Head, capacity: usize) -> bool
 
 // Whether what is seen may be of a good record: no recording in use leaves its part. One that isn't in use may stand
 // anywhere.
+#[tactic(auto, unfolding(crate::specs::Sights::sound_in))]
 fn sound(t: Seen) -> bool
     ensures { result ≡ sound_in t }
 {
-    if t.good & sampler::good_sizes(t.count, t.capacity) {
-        if t.count == 2 {
-            return in_part(t.first, t.capacity) & in_part(t.second, t.capacity);
-        }
-        return in_part(t.first, t.capacity);
-    }
-    false
+    t.good
+        && sampler::good_sizes(t.count, t.capacity)
+        && in_part(t.first, t.capacity)
+        && (t.count != 2 || in_part(t.second, t.capacity))
 }
 
 // And memory of that size is long enough for it.
+#[tactic(auto, unfolding(crate::specs::Sights::good_in))]
 pub fn good_in(t: Seen, size: usize) -> bool
     ensures { result ≡ good_in t size }
 {
-    if sound(t) {
-        sampler::enough(t.count, t.capacity, size)
-    } else {
-        false
-    }
+    sound(t) && sampler::enough(t.count, t.capacity, size)
 }
 
-fn waveform_number(t: Seen, columns: usize, room: usize, size: usize) -> u8
-    ensures { result ≡ waveform_number_in t columns room size }
+fn waveform_judged(t: Seen, columns: usize, room: usize, size: usize) -> Result<(), Refusal>
+    ensures { result ≡ waveform_judged_in t columns room size }
 {
-    let short = first_of(room < columns, 8, 0);
-    let many = first_of(MOST_COLUMNS < columns, 11, short);
-    first_of(!good_in(t, size), 9, many)
+    Refusal::Broken.when(!good_in(t, size))?;
+    Refusal::TooManyColumns.when(MOST_COLUMNS < columns)?;
+    Refusal::ShortList.when(room < columns)
 }
 
 // Writes a value for each column of channel 0's recording to the front of the list. None is below 0, so the smallest is
 // where the extremes start.
-pub fn waveform_in(t: Seen, columns: usize, list: &mut [f32], memory: &[u32]) -> WaveformSummary
+pub fn waveform_in(
+    t: Seen,
+    columns: usize,
+    list: &mut [f32],
+    memory: &[u32],
+) -> Result<WaveformSummary, Refusal>
     ensures value { result ≡ waveform_in t columns (length list.old) memory.now }
     ensures list_after { list.new ≡ waveform_left t columns list.old memory.now }
 {
-    let number = waveform_number(t, columns, list.len(), memory.len());
-    if number != 0 {
-        return WaveformSummary {
-            smallest: 0.0,
-            largest: 0.0,
-            number,
-        };
-    }
-    let head = t.first;
-    let start = head.start;
-    let end = start + head.data_len;
+    waveform_judged(t, columns, list.len(), memory.len())?;
+    let start = t.first.start;
+    let end = start + t.first.data_len;
     write_columns(&memory[start..end], columns, list);
-    WaveformSummary {
+    Ok(WaveformSummary {
         smallest: 0.0,
         largest: largest(&list[..columns]),
-        number: 0,
-    }
+    })
 }
 
 pub fn get_waveform_summary(
@@ -523,7 +440,7 @@ pub fn get_waveform_summary(
     columns: usize,
     list: &mut [f32],
     memory: &[u32],
-) -> WaveformSummary
+) -> Result<WaveformSummary, Refusal>
     ensures value { result ≡ get_waveform_summary_of s columns (length list.old) memory.now }
     ensures list_after { list.new ≡ waveform_after s columns list.old memory.now }
 {

@@ -11,9 +11,11 @@ use borrow.Author.Tests.{le-leb, lt-leb, leb-true, leb-false, le-ltb, lt-ltb}
 use Rattle.decimal.specs.Decimal.{decimal}
 use Rattle.decimal.specs.declared.Line.{Line}
 use Rattle.decimal.specs.Lines.{bytes, line_of, text_of, printed_of}
-use Rattle.recorder.specs.ErrorText.{error_text, print_error_info_of, text_after, text_number}
+use Rattle.recorder.specs.ErrorText.{error_text, print_error_info_of, text_after}
 use Rattle.recorder.specs.declared.Recorder.{Recorder}
-use Rattle.recorder.specs.declared.Text.TheVariants.{Written, Short}
+use Rattle.std.specs.Prelude.{Ok, Err}
+use Rattle.refusals.specs.Refusals.{code_of}
+use Rattle.refusals.specs.declared.Refusal.TheVariants.{ShortList}
 use Rattle.decimal.proofs.Decimals.{decimal_short}
 use Rattle.decimal.proofs.Lines.{line_text}
 
@@ -31,20 +33,20 @@ module _ (r : Recorder) where
   text_is l e s i = ap text_of e ∙ line_text (error_text r) (omega (arith, text_bound s i))
 
   -- 8 exactly where the list is shorter than the text, otherwise 0
-  pub text_number_lem : (room : ℕ) → text_number (print_error_info_of r room) ≡ cond (ltb room (length (error_text r))) 8 0
+  pub text_number_lem : (room : ℕ) → code_of (print_error_info_of r room) ≡ cond (ltb room (length (error_text r))) 8 0
   unfolding print_error_info_of
   text_number_lem room = go (leb (length (error_text r)) room) refl
     where
-      go : (b : Bool) → leb (length (error_text r)) room ≡ b → text_number (print_error_info_of r room) ≡ cond (ltb room (length (error_text r))) 8 0
+      go : (b : Bool) → leb (length (error_text r)) room ≡ b → code_of (print_error_info_of r room) ≡ cond (ltb room (length (error_text r))) 8 0
       go true e = simp (e, le-ltb room (length (error_text r)) (leb-true _ _ e))
       go false e = simp (e, lt-ltb room (length (error_text r)) (leb-false _ _ e))
 
   module _ (text : List ℕ) where
     pub text_fits : length (error_text r) ≤ length text
-        → (print_error_info_of r (length text) ≡ Written (length (error_text r))) × (text_after r text ≡ error_text r ++ drop (length (error_text r)) text)
+        → (print_error_info_of r (length text) ≡ Ok (length (error_text r))) × (text_after r text ≡ error_text r ++ drop (length (error_text r)) text)
     unfolding print_error_info_of text_after printed_of
     text_fits h = (simp (le-leb _ _ h), simp (le-leb _ _ h))
 
-    pub text_too_long : length text < length (error_text r) → (print_error_info_of r (length text) ≡ Short) × (text_after r text ≡ text)
+    pub text_too_long : length text < length (error_text r) → (print_error_info_of r (length text) ≡ Err ShortList) × (text_after r text ≡ text)
     unfolding print_error_info_of text_after printed_of
     text_too_long h = (simp (lt-leb _ _ h), simp (lt-leb _ _ h))

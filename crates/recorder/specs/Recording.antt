@@ -1,12 +1,10 @@
 -- What each call of the recorder does (document 01, module 5). `len` is the length of the data, `capacity` that of the
 -- lent memory. Assumes nothing.
-use Rattle.std.specs.Prelude.{Bool, true, false, cond, ◌&&◌, List, ℕ, ◌+◌, ◌≤◌, max, min, ltb, leb, length, set}
+use Rattle.std.specs.Prelude.{Bool, true, false, cond, ◌&&◌, List, ℕ, ◌+◌, ◌≤◌, max, min, ltb, leb, length, set, Option, Some, None}
 use Rattle.recorder.specs.declared.State.{State}
 use Rattle.recorder.specs.declared.State.TheVariants.{Triggered, Idle}
 use Rattle.recorder.specs.declared.Recorder.{Recorder}
 use Rattle.recorder.specs.declared.Recorded.{Recorded}
-use Rattle.recorder.specs.declared.LastOffset.{LastOffset}
-use Rattle.recorder.specs.declared.LastOffset.TheVariants.{At, Nothing}
 
 -- one more, but a count holds at 2 ^ 32 - 1
 unfoldable pub raised : ℕ → ℕ
@@ -65,8 +63,8 @@ data_after r sample mem = elim r.state [
   | Idle ↦ mem
 ]
 
-unfoldable pub last_recorded_offset_of : Recorder → LastOffset
-last_recorded_offset_of r = elim r.state [ Triggered write ↦ At write | Idle ↦ Nothing ]
+unfoldable pub last_recorded_offset_of : Recorder → Option ℕ
+last_recorded_offset_of r = elim r.state [ Triggered write ↦ Some write | Idle ↦ None ]
 
 unfoldable pub is_recording_of : Recorder → Bool
 is_recording_of r = elim r.state [ Triggered write ↦ true | Idle ↦ false ]

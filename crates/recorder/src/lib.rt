@@ -20,7 +20,7 @@ ghost use Rattle.recorder.specs.Recording.{
 };
 
 use decimal::Line;
-use walks::{larger, smaller};
+use refusals::Refusal;
 
 #[derive(Clone, Copy)]
 pub enum State {
@@ -54,23 +54,11 @@ pub struct Recorded {
     pub data_len: usize,
 }
 
-#[derive(Clone, Copy)]
-pub enum LastOffset {
-    At(usize),
-    Nothing,
-}
-
-// How many bytes were written, or that the lent list is shorter than the text.
-#[derive(Clone, Copy)]
-pub enum Text {
-    Written(usize),
-    Short,
-}
-
+#[tactic(auto, unfolding(crate::specs::Recording::raised))]
 fn raised_count(count: u32) -> u32
     ensures { result ≡ raised count }
 {
-    if count < 4294967295 { count + 1 } else { count }
+    count.saturating_add(1)
 }
 
 impl Recorder {
@@ -84,33 +72,31 @@ impl Recorder {
         }
     }
 
+    #[tactic(auto, unfolding(crate::specs::Recording::start_of, crate::specs::Recording::in_state))]
     pub fn start(self) -> Recorder
         ensures { result ≡ start_of self }
     {
-        let state = self.state;
-        match state {
+        match self.state {
             State::Idle => Recorder {
                 state: State::Triggered { write: 0 },
-                skipped_samples: self.skipped_samples,
-                incorrect_state: self.incorrect_state,
+                ..self
             },
-            State::Triggered { write: _ } => self.misused(),
+            State::Triggered { .. } => self.misused(),
         }
     }
 
     // Cuts the data to the write place.
+    #[tactic(auto, unfolding(crate::specs::Recording::stop_of, crate::specs::Recording::in_state))]
     pub fn stop(self, data_len: usize) -> Recorded
         ensures { result ≡ stop_of self data_len }
     {
-        let state = self.state;
-        match state {
+        match self.state {
             State::Triggered { write } => Recorded {
                 recorder: Recorder {
                     state: State::Idle,
-                    skipped_samples: self.skipped_samples,
-                    incorrect_state: self.incorrect_state,
+                    ..self
                 },
-                data_len: smaller(data_len, write),
+                data_len: data_len.min(write),
             },
             State::Idle => Recorded {
                 recorder: self.misused(),
@@ -119,23 +105,22 @@ impl Recorder {
         }
     }
 
+    #[tactic(auto, unfolding(crate::specs::Recording::misused_of))]
     fn misused(self) -> Recorder
         ensures { result ≡ misused_of self }
     {
-        let state = self.state;
         Recorder {
-            state,
-            skipped_samples: self.skipped_samples,
             incorrect_state: raised_count(self.incorrect_state),
+            ..self
         }
     }
 
+    #[tactic(auto, unfolding(crate::specs::Recording::recorded_of, crate::specs::Recording::data_after, crate::specs::Recording::in_state, crate::specs::Recording::skipped_of))]
     pub fn with_sample(self, sample: u32, data: &mut [u32], data_len: usize) -> Recorded
         ensures value { result ≡ recorded_of self data_len (length «data».old) }
         ensures data_after { «data».new ≡ data_after self sample «data».old }
     {
-        let state = self.state;
-        let State::Triggered { write } = state else {
+        let State::Triggered { write } = self.state else {
             return Recorded {
                 recorder: self.copied(),
                 data_len,
@@ -146,7 +131,7 @@ impl Recorder {
                 recorder: Recorder {
                     state: State::Triggered { write },
                     skipped_samples: raised_count(self.skipped_samples),
-                    incorrect_state: self.incorrect_state,
+                    ..self
                 },
                 data_len,
             };
@@ -155,10 +140,9 @@ impl Recorder {
         Recorded {
             recorder: Recorder {
                 state: State::Triggered { write: write + 1 },
-                skipped_samples: self.skipped_samples,
-                incorrect_state: self.incorrect_state,
+                ..self
             },
-            data_len: larger(data_len, write + 1),
+            data_len: data_len.max(write + 1),
         }
     }
 
@@ -166,64 +150,62 @@ impl Recorder {
     pub fn copied(self) -> Self
         ensures { result ≡ self }
     {
-        let state = self.state;
         Self {
-            state: state.copied(),
+            state: self.state.copied(),
             skipped_samples: self.skipped_samples,
             incorrect_state: self.incorrect_state,
         }
     }
 
-    pub fn last_recorded_offset(self) -> LastOffset
+    #[tactic(auto, unfolding(crate::specs::Recording::last_recorded_offset_of))]
+    pub fn last_recorded_offset(self) -> Option<usize>
         ensures { result ≡ last_recorded_offset_of self }
     {
-        let state = self.state;
-        match state {
-            State::Triggered { write } => LastOffset::At(write),
-            State::Idle => LastOffset::Nothing,
+        match self.state {
+            State::Triggered { write } => Some(write),
+            State::Idle => None,
         }
     }
 
+    #[tactic(auto, unfolding(crate::specs::Recording::is_recording_of))]
     pub fn is_recording(self) -> bool
         ensures { result ≡ is_recording_of self }
     {
-        let state = self.state;
-        match state {
-            State::Triggered { write: _ } => true,
-            State::Idle => false,
-        }
+        matches!(self.state, State::Triggered { .. })
     }
 
     // Whether the write place doesn't exceed the length of the data, nor that the capacity.
+    #[tactic(auto, unfolding(crate::specs::Recording::good_recorder))]
     pub fn good(self, data_len: usize, capacity: usize) -> bool
         ensures { result ≡ good_recorder self data_len capacity }
     {
-        let state = self.state;
-        match state {
+        match self.state {
             State::Triggered { write } => (write <= data_len) & (data_len <= capacity),
             State::Idle => data_len <= capacity,
         }
     }
 
-    // Writes `skip: 0, neg: 0, inc: 0` with the counts. Where that doesn't fit, nothing is written.
-    pub fn print_error_info(self, text: &mut [u8]) -> Text
+    // Writes `skip: 0, neg: 0, inc: 0` with the counts, and answers how many bytes that is. Where the lent list is shorter,
+    // nothing is written.
+    pub fn print_error_info(self, text: &mut [u8]) -> Result<usize, Refusal>
         ensures value { result ≡ print_error_info_of self (length text.old) }
         ensures text_after { text.new ≡ text_after self text.old }
     {
         let line = self.error_text();
         if line.print(text) {
-            Text::Written(line.length)
+            Ok(line.length)
         } else {
-            Text::Short
+            Err(Refusal::ShortList)
         }
     }
 
     fn error_text(self) -> Line
         ensures { result ≡ line_of (error_text self) }
     {
-        let skip = Line::new().with(b"skip: ");
-        let neg = skip.with_decimal(self.skipped_samples as u64);
-        let inc = neg.with(b", neg: 0, inc: ");
-        inc.with_decimal(self.incorrect_state as u64)
+        Line::new()
+            .with(b"skip: ")
+            .with_decimal(self.skipped_samples as u64)
+            .with(b", neg: 0, inc: ")
+            .with_decimal(self.incorrect_state as u64)
     }
 }

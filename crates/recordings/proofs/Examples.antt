@@ -1,5 +1,5 @@
 -- Both calls at the edges of their rows, computed: what is refused, and its neighbour that is accepted; the file byte by byte, the record and the memory. Assumes nothing.
-use Rattle.std.proofs.Common.{◌≡◌, ℕ, ◌-◌, ◌*◌, ◌^◌, false, List, [], ◌∷◌, ◌++◌, map, length, take, replicate, refl}
+use Rattle.std.proofs.Common.{◌≡◌, ℕ, ◌-◌, ◌*◌, ◌^◌, false, List, [], ◌∷◌, ◌++◌, map, length, take, replicate, refl, Result, Ok, Err}
 use Rattle.octets.specs.Octets.{bytes_at, little_of, little_bytes}
 use Rattle.octets.proofs.Hex.{digits_of, pairs, from_hex}
 use Rattle.wave.specs.Fields.{two_at, four_at, word_bytes, listed}
@@ -7,7 +7,7 @@ use Rattle.wave.specs.Files.{format_of, riff_row, format_row, fact_row, data_row
 use Rattle.wave.specs.Reader.{padded_at, met_of, chunk_at, walk_from, walk_of, good_riff, good_format, good_fact, counted_judged, judged_at, file_judged}
 use Rattle.wave.specs.Memory.{fits_memory, frame_words, stored_of, loaded_of}
 use Rattle.common_types.specs.declared.InitParams.{InitParams}
-use Rattle.walks.specs.Walks.{any, every, fold}
+use Rattle.std.specs.List.{list_any, list_all, fold}
 use Rattle.volume.specs.Levels.{good_volume}
 use Rattle.recorder.specs.Recording.{in_state, start_of, is_recording_of, good_recorder}
 use Rattle.phrases.specs.Phrases.{no_samples, is_over_by, reach_of, apart_of, others_of, every_below, good_at, good_phrases, beside_with, beside_of}
@@ -17,16 +17,16 @@ use Rattle.channel.specs.Heads.{begins_at, holds_of, head_of, phrase_after, reco
 use Rattle.channel.specs.Tables.{good_table, table_after, several_after, head_names, found_by, leaving_of, blocked_by, short_by}
 use Rattle.channel.specs.Channels.{with_head, channel_of, uses_of, head_changed_in, changed_of, good_voices_of, good_channel}
 use Rattle.sampler.specs.declared.Sampler.{Sampler}
-use Rattle.sampler.specs.Refusals.{channel_at, good_sizes, good_sampler, capacity_of, good_with, against_any, set_up_number}
+use Rattle.sampler.specs.Refusals.{channel_at, good_sizes, good_sampler, capacity_of, good_with, against_any, set_up_judged}
 use Rattle.sampler.specs.Samplers.{with_channels, set_up_of, each_of, answer_of}
-use Rattle.questions.specs.declared.Counted.TheVariants.{Done, Refused}
-use Rattle.questions.specs.Questions.{answered}
-use Rattle.recordings.specs.Waves.{write_number, write_wave_of, wave_after, read_number, read_wave_of, read_memory}
+use Rattle.refusals.specs.declared.Refusal.{Refusal}
+use Rattle.refusals.specs.declared.Refusal.TheVariants.{ShortList, OtherChannels, BadWave, NoRoom}
+use Rattle.recordings.specs.Waves.{write_judged, write_number, write_wave_of, wave_after, read_judged, read_number, read_wave_of, read_memory}
 use Rattle.recordings.specs.declared.ReadAnswer.{ReadAnswer}
 
 -- whatever an answer computes by
 unfoldable pub computing : Unit {0}
-unfolding from_hex pairs digits_of bytes_at little_of little_bytes two_at four_at word_bytes listed format_of riff_row format_row fact_row data_row header_of padded_at met_of chunk_at walk_from walk_of good_riff good_format good_fact counted_judged judged_at file_judged fits_memory frame_words stored_of loaded_of any every fold good_volume in_state start_of is_recording_of good_recorder no_samples is_over_by reach_of apart_of others_of every_below good_at good_phrases beside_with beside_of begins_at holds_of head_of phrase_after recorder_after interpolates_after chosen_after head_changed_of good_head good_table table_after several_after head_names found_by leaving_of blocked_by short_by channel_of uses_of head_changed_in changed_of good_voices_of good_channel good_sizes good_sampler capacity_of good_with against_any set_up_number set_up_of each_of answer_of answered write_number write_wave_of wave_after read_number read_wave_of read_memory
+unfolding from_hex pairs digits_of bytes_at little_of little_bytes two_at four_at word_bytes listed format_of riff_row format_row fact_row data_row header_of padded_at met_of chunk_at walk_from walk_of good_riff good_format good_fact counted_judged judged_at file_judged fits_memory frame_words stored_of loaded_of good_volume in_state start_of is_recording_of good_recorder no_samples is_over_by reach_of apart_of others_of every_below good_at good_phrases beside_with beside_of begins_at holds_of head_of phrase_after recorder_after interpolates_after chosen_after head_changed_of good_head good_table table_after several_after head_names found_by leaving_of blocked_by short_by channel_of uses_of head_changed_in changed_of good_voices_of good_channel good_sizes good_sampler capacity_of good_with against_any set_up_judged set_up_of each_of answer_of write_judged write_wave_of wave_after read_judged read_wave_of read_memory
 computing = tt
 
 -- ---- records: two channels with parts of three words, in a memory of seven
@@ -107,7 +107,7 @@ write_rows : write_number (lasting 2 2) 74 7 ∷ write_number (lasting 2 2) 73 7
 unfolding computing
 write_rows = refl
 
-written : map (λ (room : ℕ). write_wave_of (lasting 2 2) room 7) (73 ∷ 74 ∷ 75 ∷ []) ≡ Refused 8 ∷ Done 74 ∷ Done 74 ∷ []
+written : map (λ (room : ℕ). write_wave_of (lasting 2 2) room 7) (73 ∷ 74 ∷ 75 ∷ []) ≡ Err ShortList ∷ Ok 74 ∷ Ok 74 ∷ []
 unfolding computing
 written = refl
 
@@ -155,10 +155,10 @@ unfolding computing
 read_rows = refl
 
 -- the record is that of recordings of two samples, each where its phrase was, and the answer has the rate
-abbrev answers : Sampler → ℕ → ℕ → ReadAnswer
-answers s rate n = record { sampler = s; read = record { rate = rate; number = n } }
+abbrev answers : Sampler → Result ℕ Refusal → ReadAnswer
+answers s read = record { sampler = s; read = read }
 
-reads : map (λ (s : Sampler). read_wave_of s file 7) (new ∷ lasting 3 1 ∷ beginning 1 1 ∷ []) ≡ answers (lasting 2 2) 44100 0 ∷ answers (lasting 2 2) 44100 0 ∷ answers (beginning 1 1) 44100 0 ∷ []
+reads : map (λ (s : Sampler). read_wave_of s file 7) (new ∷ lasting 3 1 ∷ beginning 1 1 ∷ []) ≡ answers (lasting 2 2) (Ok 44100) ∷ answers (lasting 2 2) (Ok 44100) ∷ answers (beginning 1 1) (Ok 44100) ∷ []
 unfolding computing
 reads = refl
 
@@ -168,7 +168,7 @@ stored : map (λ (s : Sampler). read_memory s file others) (new ∷ beginning 1 
 unfolding computing
 stored = refl
 
-reads_none : read_wave_of (lasting 2 2) no_samples_lem 7 ≡ answers new 44100 0
+reads_none : read_wave_of (lasting 2 2) no_samples_lem 7 ≡ answers new (Ok 44100)
 unfolding computing
 reads_none = refl
 
@@ -187,8 +187,8 @@ stored_behind : read_memory (chosen 1 (lasting 2 1)) (stereo 1) others ≡ 30 �
 unfolding computing
 stored_behind = refl
 
--- refused: the record, the rate 0, and the memory
-refused : map (λ (f : List ℕ). read_wave_of (lasting 2 1) f 7) (stereo 4 ∷ mono 2 ∷ cut file ∷ []) ≡ answers (lasting 2 1) 0 18 ∷ answers (lasting 2 1) 0 16 ∷ answers (lasting 2 1) 0 17 ∷ []
+-- refused: the record and the memory
+refused : map (λ (f : List ℕ). read_wave_of (lasting 2 1) f 7) (stereo 4 ∷ mono 2 ∷ cut file ∷ []) ≡ answers (lasting 2 1) (Err NoRoom) ∷ answers (lasting 2 1) (Err OtherChannels) ∷ answers (lasting 2 1) (Err BadWave) ∷ []
 unfolding computing
 refused = refl
 
@@ -197,6 +197,6 @@ unfolding computing
 stores_nothing = refl
 
 -- ---- and back: rates at either end
-rates : map (λ (rate : ℕ). read_wave_of new (wave_after (lasting 2 2) rate memory (replicate 74 7)) 7) (0 ∷ 4294967295 ∷ []) ≡ answers (lasting 2 2) 0 0 ∷ answers (lasting 2 2) 4294967295 0 ∷ []
+rates : map (λ (rate : ℕ). read_wave_of new (wave_after (lasting 2 2) rate memory (replicate 74 7)) 7) (0 ∷ 4294967295 ∷ []) ≡ answers (lasting 2 2) (Ok 0) ∷ answers (lasting 2 2) (Ok 4294967295) ∷ []
 unfolding computing
 rates = refl

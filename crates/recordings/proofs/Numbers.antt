@@ -1,5 +1,10 @@
 -- What a refused call leaves, and what a number of 0 says of record, memory and file. Assumes nothing.
-use Rattle.std.proofs.Common.{◌≡◌, ℕ, ◌+◌, ◌*◌, ◌^◌, ◌<◌, ◌≤◌, Bool, true, false, cond, not, eqb, ltb, List, length, sym, refl, ◌∙◌, subst, mul-le-mul_right, arith, ltb-false, lt-ltb, ne_eqb, eqb-true, le-leb}
+use Rattle.std.proofs.Common.{◌≡◌, ℕ, ◌+◌, ◌*◌, ◌^◌, ◌<◌, ◌≤◌, Bool, true, false, cond, not, eqb, ltb, List, length, sym, refl, ◌∙◌, subst, mul-le-mul_right, arith, ltb-false, lt-ltb, eqb-true, le-leb, ap, Result, Ok, Err}
+use Rattle.std.specs.Prelude.{is_ok}
+use Rattle.refusals.specs.declared.Refusal.{Refusal}
+use Rattle.refusals.specs.declared.Refusal.TheVariants.{ShortList, Broken, Recording, OtherChannels, BadWave, NoRoom}
+use Rattle.refusals.specs.Refusals.{code_of}
+use Rattle.refusals.proofs.Codes.{done_at, zero_at, passed}
 use Rattle.binary32.proofs.Truth.{cond_split}
 use Rattle.wave.specs.declared.Starts.{Starts}
 use Rattle.wave.specs.declared.Layout.{Layout}
@@ -16,14 +21,12 @@ use Rattle.channel.specs.Heads.{holds_of}
 use Rattle.channel.specs.Tables.{asks_of, head_asks}
 use Rattle.channel.specs.Channels.{beside_in, begins_in}
 use Rattle.sampler.specs.declared.Sampler.{Sampler}
-use Rattle.sampler.specs.Refusals.{channel_at, good_with, records, any_recording, against_any, change_number}
+use Rattle.sampler.specs.Refusals.{channel_at, good_with, records, any_recording, against_any, change_judged, change_number}
 use Rattle.sampler.specs.Samplers.{each_of, answer_of, change_of}
-use Rattle.sampler.proofs.Rows.{passed, is_true, Fitting, fitting}
+use Rattle.sampler.proofs.Rows.{is_true, Fitting, fitting}
 use Rattle.sampler.proofs.Channels.{good_at, short_data, read_within}
 use Rattle.sampler.proofs.Against.{against_samples, short_samples, none_at}
-use Rattle.questions.specs.declared.Counted.TheVariants as counted
-use Rattle.questions.specs.Questions.{counted_number, answered}
-use Rattle.recordings.specs.Waves.{samples_of, lengths_differ, layout_in, write_number, write_wave_of, bad_file, held_in, read_number, read_wave_of, beginnings_in, read_memory}
+use Rattle.recordings.specs.Waves.{samples_of, lengths_differ, layout_in, given, write_judged, write_number, write_wave_of, bad_file, held_in, read_judged, read_number, read_wave_of, beginnings_in, read_memory}
 use Rattle.recordings.specs.declared.ReadAnswer.{ReadAnswer}
 use Rattle.recordings.proofs.Parts.{starts_fit}
 
@@ -55,12 +58,12 @@ pub record Writes (s : Sampler) (room size : ℕ) : Type 0 where
   pub fits : bytes_of (layout_in s) ≤ room
 
 pub write_says : (s : Sampler) (room size : ℕ) → write_number s room size ≡ 0 → Writes s room size
-unfolding write_number
+unfolding write_judged
 write_says s room size z =
-    let a = passed (not (good_with s size)) 8 _ z in
-    let b = passed (any_recording s) 14 _ a.1 in
-    let c = passed (lengths_differ s) 15 _ b.1 in
-    let d = passed (ltb room (bytes_of (layout_in s))) 7 0 c.1 in
+    let a = passed (not (good_with s size)) Broken _ z in
+    let b = passed (any_recording s) Recording _ a.1 in
+    let c = passed (lengths_differ s) OtherChannels _ b.1 in
+    let d = passed (ltb room (bytes_of (layout_in s))) ShortList (Ok tt) c.1 in
     record {
       good = is_true (good_with s size) a.0;
       idle = b.0;
@@ -68,15 +71,14 @@ write_says s room size z =
       fits = ltb-false room (bytes_of (layout_in s)) d.0;
     }
 
--- the number of its answer
-pub write_number_lem : (s : Sampler) (room size : ℕ) → counted_number (write_wave_of s room size) ≡ write_number s room size
-unfolding write_wave_of answered
-write_number_lem s room size = go (eqb (write_number s room size) 0) refl
-  where
-    go : (b : Bool) → eqb (write_number s room size) 0 ≡ b
-        → counted_number (cond b (counted.Done (bytes_of (layout_in s))) (counted.Refused (write_number s room size))) ≡ write_number s room size
-    go true e = sym (eqb-true _ 0 e)
-    go false e = refl
+-- an answer that is given has the number of the call
+pub given_number : {A : Type 0} (done : Result (Unit {0}) Refusal) (a : A) → code_of (given done a) ≡ code_of done
+given_number (Ok _) a = refl
+given_number (Err refusal) a = refl
+
+pub write_number_lem : (s : Sampler) (room size : ℕ) → code_of (write_wave_of s room size) ≡ write_number s room size
+unfolding write_wave_of
+write_number_lem s room size = given_number (write_judged s room size) (bytes_of (layout_in s))
 
 -- ---- reading
 module _ (s : Sampler) (f m : List ℕ) where
@@ -84,13 +86,13 @@ module _ (s : Sampler) (f m : List ℕ) where
   abbrev pub Reads : ReadAnswer → List ℕ → Type 0
   Reads r after = (r ≡ read_wave_of s f (length m)) × (after ≡ read_memory s f m)
 
-  module _ (j : Judged) (is : j ≡ file_judged f) (number : ℕ) (e : number ≡ read_number s j (length m)) where
-    pub read-refused : (number ≡ 0 → ⊥) → Reads (record { sampler = s; read = record { rate = 0; number = number } }) m
+  module _ (j : Judged) (is : j ≡ file_judged f) (done : Result (Unit {0}) Refusal) (e : done ≡ read_judged s j (length m)) where
+    pub read-refused : (refusal : Refusal) → done ≡ Err refusal → Reads (record { sampler = s; read = Err refusal }) m
     unfolding read_wave_of read_memory answer_of
-    read-refused h = (simp (← is, ← e, ne_eqb number 0 h), simp (← is, ← e, ne_eqb number 0 h))
+    read-refused refusal h = (rw (← is, ← e, h) refl, rw (← is, ← e, h) refl)
 
-    pub read_done : number ≡ 0 → (x : Starts) → x ≡ beginnings_in s → (after : List ℕ) → after ≡ loaded_of f x m → (w : Wave) → w ≡ held_in j → (a : Sampler) → a ≡ each_of (Head (Load w.samples)) s
-        → Reads (record { sampler = a; read = record { rate = w.rate; number = 0 } }) after
+    pub read_done : done ≡ Ok tt → (x : Starts) → x ≡ beginnings_in s → (after : List ℕ) → after ≡ loaded_of f x m → (w : Wave) → w ≡ held_in j → (a : Sampler) → a ≡ each_of (Head (Load w.samples)) s
+        → Reads (record { sampler = a; read = Ok w.rate }) after
     unfolding read_wave_of read_memory answer_of
     read_done z x k after l w h a g = (rw (← is, ← e, z, g, h) refl, rw (← is, ← e, z, ← k) l)
 
@@ -103,14 +105,14 @@ pub record Loads (s : Sampler) (j : Judged) (size : ℕ) : Type 0 where
   pub room : (against_any (Samples (held_in j).samples) s).short ≡ false
 
 pub read_says : (s : Sampler) (j : Judged) (size : ℕ) → read_number s j size ≡ 0 → Loads s j size
-unfolding read_number
+unfolding read_judged
 read_says s j size z =
     let against = against_any (Samples (held_in j).samples) s in
-    let a = passed (not (good_with s size)) 8 _ z in
-    let b = passed against.blocked 14 _ a.1 in
-    let c = passed (bad_file j) 16 _ b.1 in
-    let d = passed (not (eqb (held_in j).channels s.count)) 15 _ c.1 in
-    let e = passed against.short 17 0 d.1 in
+    let a = passed (not (good_with s size)) Broken _ z in
+    let b = passed against.blocked Recording _ a.1 in
+    let c = passed (bad_file j) BadWave _ b.1 in
+    let d = passed (not (eqb (held_in j).channels s.count)) OtherChannels _ c.1 in
+    let e = passed against.short NoRoom (Ok tt) d.1 in
     record {
       good = is_true (good_with s size) a.0;
       idle = sym (against_samples s (held_in j).samples) ∙ b.0;
@@ -144,18 +146,19 @@ module _ (s : Sampler) (j : Judged) (size : ℕ) (l : Loads s j size) where
 module _ (s : Sampler) (f m : List ℕ) where
   pub read_memory_length : length (read_memory s f m) ≡ length m
   unfolding read_memory
-  read_memory_length = cond_split (λ (x : List ℕ). length x ≡ length m) (eqb (read_number s (file_judged f) (length m)) 0) _ _ (λ _. length_loaded f (beginnings_in s) m) (λ _. refl)
+  read_memory_length = cond_split (λ (x : List ℕ). length x ≡ length m) (is_ok (read_judged s (file_judged f) (length m))) _ _ (λ _. length_loaded f (beginnings_in s) m) (λ _. refl)
 
   -- a read leaves the record as a change does, or as it was
   pub read_sampler : (P : Sampler → Type 0) → P s → (change_number s (Head (Load (held_in (file_judged f)).samples)) ≡ 0 → P (change_of s (Head (Load (held_in (file_judged f)).samples))).sampler) → P (read_wave_of s f (length m)).sampler
   unfolding read_wave_of answer_of
-  read_sampler P held changed = go (eqb number 0) refl
+  read_sampler P held changed = go (is_ok done) refl
     where
-      number : ℕ
-      number = read_number s (file_judged f) (length m)
+      done : Result (Unit {0}) Refusal
+      done = read_judged s (file_judged f) (length m)
 
-      go : (b : Bool) → eqb number 0 ≡ b → P (cond b (each_of (Head (Load (held_in (file_judged f)).samples)) s) s)
+      go : (b : Bool) → is_ok done ≡ b → P (cond b (each_of (Head (Load (held_in (file_judged f)).samples)) s) s)
       go true e =
-          let z = loads_change s (file_judged f) (length m) (read_says s (file_judged f) (length m) (eqb-true number 0 e)) in
-          subst (λ (k : ℕ). P (cond (eqb k 0) (each_of (Head (Load (held_in (file_judged f)).samples)) s) s)) z (changed z)
+          let x = Head (Load (held_in (file_judged f)).samples) in
+          let z = loads_change s (file_judged f) (length m) (read_says s (file_judged f) (length m) (zero_at done e)) in
+          subst (λ (b : Bool). P (cond b (each_of x s) s)) (done_at (change_judged s x) z) (changed z)
       go false e = held

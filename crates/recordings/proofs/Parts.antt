@@ -1,6 +1,6 @@
 -- Where recordings stand in the memory: a file's where each channel's recording begins in its part, and those of the record from their starts on in it. Assumes nothing.
 use Rattle.std.proofs.Common.{◌≡◌, ℕ, zero, suc, ◌+◌, ◌*◌, ◌^◌, ◌<◌, ◌≤◌, Bool, true, false, not, ◌||◌, eqb, ltb, ◌⊎◌, List, [], ◌∷◌, ◌++◌, length, get_or, take, drop, sym, refl, ap, ◌∙◌, subst, inl, inr, ⊎_elim, le_trans, le_refl, mul-le-mul_right, suc-mul, eq-or-lt_of_le, one-mul, zero-mul, arith, length-drop, take-append-drop, length-take, get_or-drop, get_or-take, drop-drop, ext_get_or, ltb-false, ltb-true, eqb-true, le-leb}
-use Rattle.walks.specs.Walks.{any}
+use Rattle.std.specs.List.{list_any}
 use Rattle.walks.proofs.Tests.{neither}
 use Rattle.walks.proofs.Lists.Loops.{get_d_any}
 use Rattle.wave.specs.declared.Starts.{Starts}
@@ -22,8 +22,7 @@ use Rattle.questions.proofs.Stored.{stored_at}
 use Rattle.recordings.specs.Waves.{samples_of, lengths_differ, starts_in, layout_in, beginnings_in}
 
 -- where none of two is, the second isn't
-second_not : {A : Type 0} (p : A → Bool) (l : List A) (d : A) → length l ≡ 2 → any p (take 2 l) ≡ false → p (get_or l 1 d) ≡ false
-unfolding any
+second_not : {A : Type 0} (p : A → Bool) (l : List A) (d : A) → length l ≡ 2 → list_any p (take 2 l) ≡ false → p (get_or l 1 d) ≡ false
 second_not p [] d long none = absurd (omega arith)
 second_not p (a ∷ []) d long none = absurd (omega arith)
 second_not p (a ∷ b ∷ l) d long none = (neither (p b) false (neither (p a) (p b || false) none).1).0
@@ -175,7 +174,7 @@ module _ (s : Sampler) where
       let one : suc j ≡ 1 = omega arith in
       let two : s.count ≡ 2 = omega arith in
       let other : Channel → Bool = λ c. not (eqb c.head.data_len (samples_of s)) in
-      rw one (eqb-true _ _ (is_true _ (second_not other s.channels _ long (ap (λ (n : ℕ). any other (take n s.channels)) (sym two) ∙ alike))))
+      rw one (eqb-true _ _ (is_true _ (second_not other s.channels _ long (ap (λ (n : ℕ). list_any other (take n s.channels)) (sym two) ∙ alike))))
 
   pub starts_fit : (size : ℕ) → Fitting s size → length s.channels ≡ 2 → lengths_differ s ≡ false → fits_memory (layout_in s) size ≡ true
   starts_fit size g long alike =

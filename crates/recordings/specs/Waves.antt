@@ -1,7 +1,10 @@
 -- Recordings out and in as WAVE files (request 10/12): what the two calls answer, and what they leave of the record and
 -- of what is lent with it. A file's bytes are said in crate `wave`. Definitions only. Assumes nothing.
-use Rattle.std.specs.Prelude.{ℕ, ◌+◌, Bool, true, false, cond, not, List, ◌++◌, length, drop, ◌==◌, nat_lt}
-use Rattle.walks.specs.Walks.{any}
+use Rattle.std.specs.Prelude.{ℕ, ◌+◌, Bool, true, false, cond, not, List, ◌++◌, length, drop, ◌==◌, nat_lt, Result, Ok, Err, is_ok}
+use Rattle.std.specs.List.{list_any}
+use Rattle.refusals.specs.declared.Refusal.{Refusal}
+use Rattle.refusals.specs.declared.Refusal.TheVariants.{ShortList, Broken, Recording, OtherChannels, BadWave, NoRoom}
+use Rattle.refusals.specs.Refusals.{code_of, row}
 use Rattle.wave.specs.declared.Starts.{Starts}
 use Rattle.wave.specs.declared.Layout.{Layout}
 use Rattle.wave.specs.declared.Wave.{Wave}
@@ -16,12 +19,14 @@ use Rattle.channel.specs.declared.HeadChange.TheVariants.{Load}
 use Rattle.sampler.specs.declared.Sampler.{Sampler}
 use Rattle.channel.specs.declared.Ask.TheVariants.{Samples}
 use Rattle.channel.specs.Channels.{begins_in}
-use Rattle.sampler.specs.Refusals.{present, channel_at, row, good_with, any_recording, against_any}
+use Rattle.sampler.specs.Refusals.{present, channel_at, good_with, any_recording, against_any}
 use Rattle.sampler.specs.Samplers.{answer_of}
-use Rattle.questions.specs.declared.Counted.{Counted}
-use Rattle.questions.specs.declared.Counted.TheVariants as counted
-use Rattle.questions.specs.Questions.{answered}
 use Rattle.recordings.specs.declared.ReadAnswer.{ReadAnswer}
+
+-- an answer where the call isn't refused
+abbrev pub given : {A : Type 0} → Result (Unit {0}) Refusal → A → Result A Refusal
+given (Ok done) answer = Ok answer
+given (Err refusal) answer = Err refusal
 
 -- ---- writing: "15, 16, 8", behind row 9
 
@@ -31,7 +36,7 @@ samples_of s = (channel_at s 0).head.data_len
 
 -- "16 for channels of different lengths"
 abbrev pub lengths_differ : Sampler → Bool
-lengths_differ s = any (λ (c : Channel). not (c.head.data_len == samples_of s)) (present s)
+lengths_differ s = list_any (λ (c : Channel). not (c.head.data_len == samples_of s)) (present s)
 
 -- where each channel's recording begins in the memory: from its start on in its part (request 11/12); of one channel
 -- there is no second
@@ -46,27 +51,28 @@ abbrev pub layout_in : Sampler → Layout
 layout_in s = record { channels = s.count; samples = samples_of s; starts = starts_in s }
 
 -- "8 for a short output buffer"
-abbrev pub write_rows : Bool → Bool → Bool → Layout → ℕ → ℕ
+abbrev pub write_rows : Bool → Bool → Bool → Layout → ℕ → Result (Unit {0}) Refusal
 write_rows good recording differ l room =
-    row (not good) 9 (row recording 15 (row differ 16 (row (nat_lt room (bytes_of l)) 8 0)))
+    row (not good) Broken
+    (row recording Recording (row differ OtherChannels (row (nat_lt room (bytes_of l)) ShortList (Ok tt))))
 
-unfoldable pub write_number : Sampler → ℕ → ℕ → ℕ
-write_number s room size = write_rows (good_with s size) (any_recording s) (lengths_differ s) (layout_in s) room
+unfoldable pub write_judged : Sampler → ℕ → ℕ → Result (Unit {0}) Refusal
+write_judged s room size = write_rows (good_with s size) (any_recording s) (lengths_differ s) (layout_in s) room
+
+abbrev pub write_number : Sampler → ℕ → ℕ → ℕ
+write_number s room size = code_of (write_judged s room size)
 
 -- how many bytes are written
-abbrev pub written_by : Layout → ℕ → Counted
-written_by l number = answered (counted.Done (bytes_of l)) counted.Refused number
-
-unfoldable pub write_wave_of : Sampler → ℕ → ℕ → Counted
-write_wave_of s room size = written_by (layout_in s) (write_number s room size)
+unfoldable pub write_wave_of : Sampler → ℕ → ℕ → Result ℕ Refusal
+write_wave_of s room size = given (write_judged s room size) (bytes_of (layout_in s))
 
 -- the file in the front of the list, whose rest is kept
-abbrev pub wave_after_by : ℕ → Layout → List ℕ → List ℕ → ℕ → List ℕ
-wave_after_by rate l m out number =
-    cond (number == 0) (file_of rate l.channels l.samples (frame_words l m) ++ drop (bytes_of l) out) out
+abbrev pub wave_after_by : ℕ → Layout → List ℕ → List ℕ → Result (Unit {0}) Refusal → List ℕ
+wave_after_by rate l m out done =
+    cond (is_ok done) (file_of rate l.channels l.samples (frame_words l m) ++ drop (bytes_of l) out) out
 
 unfoldable pub wave_after : Sampler → ℕ → List ℕ → List ℕ → List ℕ
-wave_after s rate m out = wave_after_by rate (layout_in s) m out (write_number s (length out) (length m))
+wave_after s rate m out = wave_after_by rate (layout_in s) m out (write_judged s (length out) (length m))
 
 -- ---- reading: "15, 17, 16, 18", behind row 9
 
@@ -82,25 +88,28 @@ held_in Refused = record { rate = 0; channels = 0; samples = 0; first = 0 }
 
 -- "16 for .. another channel count"; request 11/12: "18 means more than it may hold without moving another", on one of the
 -- channels in use
-abbrev pub read_rows : Bool → Bool → Judged → ℕ → Bool → ℕ
+abbrev pub read_rows : Bool → Bool → Judged → ℕ → Bool → Result (Unit {0}) Refusal
 read_rows good recording j count short =
-    row (not good) 9
-    (row recording 15
-    (row (bad_file j) 17 (row (not ((held_in j).channels == count)) 16 (row short 18 0))))
+    row (not good) Broken
+    (row recording Recording (row (bad_file j) BadWave
+    (row (not ((held_in j).channels == count)) OtherChannels (row short NoRoom (Ok tt)))))
 
-unfoldable pub read_number : Sampler → Judged → ℕ → ℕ
-read_number s j size =
+unfoldable pub read_judged : Sampler → Judged → ℕ → Result (Unit {0}) Refusal
+read_judged s j size =
     let a = against_any (Samples (held_in j).samples) s in
     read_rows (good_with s size) a.blocked j s.count a.short
 
--- the record: each channel's recording is as long as the file's. The answer has the rate, 0 where it is refused
+abbrev pub read_number : Sampler → Judged → ℕ → ℕ
+read_number s j size = code_of (read_judged s j size)
+
+-- the record: each channel's recording is as long as the file's. The answer is the file's rate
 unfoldable pub read_wave_of : Sampler → List ℕ → ℕ → ReadAnswer
 read_wave_of s f size =
     let j = file_judged f in
-    let number = read_number s j size in
+    let done = read_judged s j size in
     record {
-      sampler = (answer_of number (Head (Load (held_in j).samples)) s).sampler;
-      read = record { rate = cond (number == 0) (held_in j).rate 0; number = number };
+      sampler = (answer_of done (Head (Load (held_in j).samples)) s).sampler;
+      read = given done (held_in j).rate;
     }
 
 -- where what is read for each channel begins: where a recording of its chosen phrase does
@@ -112,4 +121,4 @@ beginnings_in s = record {
 
 -- the memory: from there on it is the file's channel
 unfoldable pub read_memory : Sampler → List ℕ → List ℕ → List ℕ
-read_memory s f m = cond (read_number s (file_judged f) (length m) == 0) (loaded_of f (beginnings_in s) m) m
+read_memory s f m = cond (is_ok (read_judged s (file_judged f) (length m))) (loaded_of f (beginnings_in s) m) m

@@ -3,7 +3,7 @@
 // record and what is lent with it hold what they held.
 #![tactic(auto)]
 
-ghost use Rattle.std.specs.Prelude.{◌≡◌, true, length};
+ghost use Rattle.std.specs.Prelude.{◌≡◌, true, length, Ok};
 ghost use Rattle.sampler.specs.Refusals.{good_sampler};
 ghost use Rattle.questions.specs.Sights.{sound_in};
 ghost use Rattle.recordings.specs.Waves.{
@@ -12,7 +12,7 @@ ghost use Rattle.recordings.specs.Waves.{
   bad_file,
   held_in,
   read_rows,
-  read_number,
+  read_judged,
   read_wave_of,
   beginnings_in,
   read_memory,
@@ -22,11 +22,11 @@ ghost use Rattle.recordings.specs.Sights.{
   layout_seen,
   records_seen,
   differ_seen,
-  write_number_seen,
+  write_judged_seen,
   write_seen,
   wave_left,
   short_seen,
-  read_number_seen,
+  read_judged_seen,
   beginnings_seen,
   loading_seen,
   memory_left,
@@ -34,16 +34,10 @@ ghost use Rattle.recordings.specs.Sights.{
 
 use channel::Ask;
 use phrases::Beside;
-use questions::{Counted, Seen};
-use sampler::{Sampler, first_of};
+use questions::Seen;
+use refusals::Refusal;
+use sampler::Sampler;
 use wave::{Judged, Layout, Starts, Wave};
-
-// What a read answers: the file's rate, 0 where it is refused, and the number.
-#[derive(Clone, Copy)]
-pub struct WaveRead {
-    pub rate: u32,
-    pub number: u8,
-}
 
 // What a read asks of a record: what is seen of it, and what each channel's other phrases say to its recording.
 #[derive(Clone, Copy)]
@@ -53,18 +47,18 @@ pub struct Surveyed {
     pub second: Beside,
 }
 
-// What a read answers, and how many samples the file has for each channel.
+// The rate of a file that is read, and how many samples it has for each channel.
 #[derive(Clone, Copy)]
 pub struct Loading {
-    pub read: WaveRead,
+    pub rate: u32,
     pub samples: usize,
 }
 
-// What a read leaves, and what it answers.
+// What a read leaves, and the file's rate. It stays a struct: on a refusal the record is handed back as it was.
 #[derive(Clone, Copy)]
 pub struct ReadAnswer {
     pub sampler: Sampler,
-    pub read: WaveRead,
+    pub read: Result<u32, Refusal>,
 }
 
 // Where what is read for the second channel begins in the memory. One that isn't in use may have any start.
@@ -136,31 +130,27 @@ fn lengths_differ(t: Seen) -> bool
     (t.count == 2) & (other.data_len != head.data_len)
 }
 
-fn write_number(t: Seen, room: usize, size: usize) -> u8
-    ensures { result ≡ write_number_seen t room size }
+fn write_judged(t: Seen, room: usize, size: usize) -> Result<(), Refusal>
+    ensures { result ≡ write_judged_seen t room size }
 {
-    if !questions::good_in(t, size) {
-        return 9;
-    }
+    Refusal::Broken.when(!questions::good_in(t, size))?;
     let l = layout(t);
-    let short = first_of(room < 58 + 4 * (l.channels * l.samples), 8, 0);
-    let differ = first_of(lengths_differ(t), 16, short);
-    first_of(any_recording(t), 15, differ)
+    Refusal::Recording.when(any_recording(t))?;
+    Refusal::OtherChannels.when(lengths_differ(t))?;
+    let bytes = 58 + 4 * (l.channels * l.samples);
+    Refusal::ShortList.when(room < bytes)
 }
 
 // Writes the recordings of all channels as a file to the front of `out`, and answers how many bytes it has.
-pub fn write_in(t: Seen, rate: u32, memory: &[u32], out: &mut [u8]) -> Counted
+pub fn write_in(t: Seen, rate: u32, memory: &[u32], out: &mut [u8]) -> Result<usize, Refusal>
     ensures value { result ≡ write_seen t (length out.old) (length memory.now) }
     ensures out_after { out.new ≡ wave_left t rate memory.now out.old }
 {
-    let number = write_number(t, out.len(), memory.len());
-    if number != 0 {
-        return Counted::Refused(number);
-    }
-    Counted::Done(wave::write(rate, layout(t), memory, out))
+    write_judged(t, out.len(), memory.len())?;
+    Ok(wave::write(rate, layout(t), memory, out))
 }
 
-pub fn write_wave(s: Sampler, rate: u32, memory: &[u32], out: &mut [u8]) -> Counted
+pub fn write_wave(s: Sampler, rate: u32, memory: &[u32], out: &mut [u8]) -> Result<usize, Refusal>
     ensures value { result ≡ write_wave_of s (length out.old) (length memory.now) }
     ensures out_after { out.new ≡ wave_after s rate memory.now out.old }
 {
@@ -192,24 +182,33 @@ fn bad_file(judged: Judged) -> bool
 }
 
 // The rows of a read, by what stands against it.
-fn read_rows(good: bool, recording: bool, judged: Judged, count: usize, short: bool) -> u8
+fn read_rows(
+    good: bool,
+    recording: bool,
+    judged: Judged,
+    count: usize,
+    short: bool,
+) -> Result<(), Refusal>
     ensures { result ≡ read_rows good recording judged count short }
 {
-    let w = held(judged);
-    let long = first_of(short, 18, 0);
-    let other = first_of(w.channels != count, 16, long);
-    let bad = first_of(bad_file(judged), 17, other);
-    let recorded = first_of(recording, 15, bad);
-    first_of(!good, 9, recorded)
+    Refusal::Broken.when(!good)?;
+    Refusal::Recording.when(recording)?;
+    Refusal::BadWave.when(bad_file(judged))?;
+    Refusal::OtherChannels.when(held(judged).channels != count)?;
+    Refusal::NoRoom.when(short)
 }
 
-fn read_number(s: Sampler, judged: Judged, size: usize) -> u8
-    ensures { result ≡ read_number s judged size }
+fn read_judged(s: Sampler, judged: Judged, size: usize) -> Result<(), Refusal>
+    ensures { result ≡ read_judged s judged size }
 {
-    let w = held(judged);
-    let against = s.against(Ask::Samples(w.samples));
-    let good = s.good_with(size);
-    read_rows(good, against.blocked, judged, s.count, against.short)
+    let against = s.against(Ask::Samples(held(judged).samples));
+    read_rows(
+        s.good_with(size),
+        against.blocked,
+        judged,
+        s.count,
+        against.short,
+    )
 }
 
 // Replaces the recording of each channel by the file's.
@@ -218,22 +217,17 @@ pub fn read_wave(s: Sampler, file: &[u8], memory: &mut [u32]) -> ReadAnswer
     ensures memory_after { memory.new ≡ read_memory s file.now memory.old }
 {
     let judged = wave::judge(file);
-    let number = read_number(s, judged, memory.len());
-    if number != 0 {
+    if let Err(refusal) = read_judged(s, judged, memory.len()) {
         return ReadAnswer {
             sampler: s,
-            read: WaveRead { rate: 0, number },
+            read: Err(refusal),
         };
     }
     wave::load(file, beginnings(s), memory);
     let w = held(judged);
-    let sampler = s.loaded(w.samples);
     ReadAnswer {
-        sampler,
-        read: WaveRead {
-            rate: w.rate,
-            number: 0,
-        },
+        sampler: s.loaded(w.samples),
+        read: Ok(w.rate),
     }
 }
 
@@ -248,15 +242,14 @@ fn too_many(t: Surveyed, samples: usize) -> bool
     one.short | ((seen.count == 2) & two.short)
 }
 
-fn number_in(t: Surveyed, judged: Judged, size: usize) -> u8
-    ensures { result ≡ read_number_seen t judged size }
+fn judged_in(t: Surveyed, judged: Judged, size: usize) -> Result<(), Refusal>
+    ensures { result ≡ read_judged_seen t judged size }
 {
     let w = held(judged);
-    let seen = t.seen;
-    let good = questions::good_in(seen, size);
-    let recording = any_recording(seen);
+    let good = questions::good_in(t.seen, size);
+    let recording = any_recording(t.seen);
     let short = too_many(t, w.samples);
-    read_rows(good, recording, judged, seen.count, short)
+    read_rows(good, recording, judged, t.seen.count, short)
 }
 
 // Where what is read for the second channel begins in the memory. What is seen of a good record doesn't wrap.
@@ -285,27 +278,16 @@ fn beginnings_in(t: Surveyed) -> Starts
 }
 
 // Loads the file's words into the memory, where it isn't refused: all of a read but what it does to the record.
-pub fn read_in(t: Surveyed, file: &[u8], memory: &mut [u32]) -> Loading
+pub fn read_in(t: Surveyed, file: &[u8], memory: &mut [u32]) -> Result<Loading, Refusal>
     ensures value { result ≡ loading_seen t file.now (length memory.old) }
     ensures memory_after { memory.new ≡ memory_left t file.now memory.old }
 {
     let judged = wave::judge(file);
-    let w = held(judged);
-    let number = number_in(t, judged, memory.len());
-    if number != 0 {
-        let refused = WaveRead { rate: 0, number };
-        return Loading {
-            read: refused,
-            samples: w.samples,
-        };
-    }
+    judged_in(t, judged, memory.len())?;
     wave::load(file, beginnings_in(t), memory);
-    let read = WaveRead {
+    let w = held(judged);
+    Ok(Loading {
         rate: w.rate,
-        number: 0,
-    };
-    Loading {
-        read,
         samples: w.samples,
-    }
+    })
 }

@@ -7,7 +7,7 @@ use borrow.Author.Tests.{ltb-true, ltb-false, leb-true, eqb-true, eqb-false}
 use lib.Dec.{leb, ltb, eqb}
 use lib.ListN.{length, get_or, length-take, get_or-eq_default}
 use lib.Seq.{get_or-take}
-use Rattle.walks.specs.Walks.{every}
+use Rattle.std.specs.List.{list_all}
 use Rattle.walks.proofs.Lists.Every.{both, every_at}
 use Rattle.channel.specs.declared.Channel.{Channel}
 use Rattle.volume.specs.Levels.{good_volume}
@@ -36,7 +36,7 @@ good_at s j good k = go (ltb j (length s.channels)) refl
     new : Channel
     new = channel_of (record { auto_passthru = false })
 
-    every_good : every (good_channel s.capacity) (present s) ≡ true
+    every_good : list_all (good_channel s.capacity) (present s) ≡ true
     every_good = (both (good_sizes s.count s.capacity) _ good).1
 
     go : (b : Bool) → ltb j (length s.channels) ≡ b → good_channel s.capacity (channel_at s j) ≡ true

@@ -6,19 +6,22 @@ use Prim.Native.Nat.{ℕ, zero, suc, ◌+◌, ◌*◌, ◌≤◌, ◌<◌}
 use native.Mathlib.Nat.{le_trans, le_of_eq, mul-le-mul_right, suc-mul, zero-add}
 use native.Mathlib.Omega.{arith}
 use borrow.Author.Tests.{ltb-true, ltb-false}
-use lib.Dec.{T, ltb, eqb, eqb→eq}
+use Rattle.std.specs.Prelude.{is_ok}
+use lib.Dec.{T, ltb}
 use lib.ListN.{length, take, drop, get_or, length-set, length-take, length-drop}
 use lib.Ieee.{Float}
 use Rattle.binary32.proofs.Truth.{no, cond_split}
 use Rattle.binary32.specs.Leaves.{zero32}
+use Rattle.refusals.specs.declared.Refusal.TheVariants.{NoChannel, BeyondLimits, Broken}
+use Rattle.refusals.proofs.Codes.{passed, zero_when}
 use Rattle.common_types.specs.declared.Params.{Params}
 use Rattle.common_types.specs.Settings.{beyond_limits}
 use Rattle.channel.specs.Channels.{memory_of}
 use Rattle.channel.proofs.Samples.{memory_kept}
-use Rattle.sampler.specs.Refusals.{channel_at, good_with, no_channel, sample_number, frame_number}
+use Rattle.sampler.specs.Refusals.{channel_at, good_with, no_channel, sample_judged, sample_number, frame_judged, frame_number}
 use Rattle.sampler.specs.Samplers.{part_of, played_at, channel_stepped_of, memory_at, sample_memory, Framed, framed, entry_of, entries_of, framed_of}
 use Rattle.sampler.specs.declared.Sampler.{Sampler}
-use Rattle.sampler.proofs.Rows.{passed, is_true, sample_ready, frame_steps}
+use Rattle.sampler.proofs.Rows.{is_true, sample_ready, frame_steps}
 use Rattle.sampler.proofs.Replaced.{replaced_length}
 
 -- ---- what no call changes
@@ -51,16 +54,16 @@ pub record Reaches (s : Sampler) (j size : ℕ) : Type 0 where
 -- ---- what the number 0 says
 module _ (s : Sampler) (p : Params) (size : ℕ) where
   pub sample_reaches : (j : ℕ) → sample_number s j p size ≡ 0 → Reaches s j size × T (not (beyond_limits p))
-  unfolding sample_number
+  unfolding sample_judged
   sample_reaches j h =
-      let a = passed (no_channel s j) 0 _ (passed (not (good_with s size)) 8 _ h).1 in
-      (record { below = ltb-true j s.count (is_true (ltb j s.count) a.0); part = (sample_ready s j p size h).part }, no (passed (beyond_limits p) 3 _ a.1).0)
+      let a = passed (no_channel s j) NoChannel _ (passed (not (good_with s size)) Broken _ h).1 in
+      (record { below = ltb-true j s.count (is_true (ltb j s.count) a.0); part = (sample_ready s j p size h).part }, no (passed (beyond_limits p) BeyondLimits _ a.1).0)
 
   pub frame_reaches : (n : ℕ) → frame_number s n p size ≡ 0 → (n ≤ s.count) × T (not (beyond_limits p))
-  unfolding frame_number
+  unfolding frame_judged
   frame_reaches n h =
-      let a = passed (ltb s.count n) 0 _ (passed (not (good_with s size)) 8 _ h).1 in
-      (ltb-false s.count n a.0, no (passed (beyond_limits p) 3 _ a.1).0)
+      let a = passed (ltb s.count n) NoChannel _ (passed (not (good_with s size)) Broken _ h).1 in
+      (ltb-false s.count n a.0, no (passed (beyond_limits p) BeyondLimits _ a.1).0)
 
 -- ---- the memory's length
 
@@ -81,8 +84,8 @@ module _ (s : Sampler) (j : ℕ) (m : List ℕ) (within : j * s.capacity + s.cap
 pub sample_memory_length : (s : Sampler) (j : ℕ) (x : Float) (p : Params) (m : List ℕ) → length (sample_memory s j x p m) ≡ length m
 unfolding sample_memory
 sample_memory_length s j x p m =
-    let n = sample_number s j p (length m) in
-    cond_split (λ (l : List ℕ). length l ≡ length m) (eqb n 0) (memory_at s j x m) m (λ t. memory_at_length s j m (sample_reaches s p (length m) j (eqb→eq n 0 t)).0.part x) (λ t. refl)
+    let done = sample_judged s j p (length m) in
+    cond_split (λ (l : List ℕ). length l ≡ length m) (is_ok done) (memory_at s j x m) m (λ t. memory_at_length s j m (sample_reaches s p (length m) j (zero_when done t)).0.part x) (λ t. refl)
 
 -- ---- a frame
 module _ (P : Framed → Type 0) (p : Params) (keeps : T (not (beyond_limits p)) → (j : ℕ) (f : Framed) → Reaches f.sampler j (length f.memory) → P f → P (entry_of p j f)) where
@@ -106,9 +109,9 @@ module _ (P : Framed → Type 0) (p : Params) (keeps : T (not (beyond_limits p))
   unfolding framed_of
   frame_keeps s frame m h =
       let n = length frame in
-      let number = frame_number s n p (length m) in
-      cond_split P (eqb number 0) (entries_of p n 0 (framed s frame m)) (framed s frame m)
-      (λ t. let z = eqb→eq number 0 t in
+      let done = frame_judged s n p (length m) in
+      cond_split P (is_ok done) (entries_of p n 0 (framed s frame m)) (framed s frame m)
+      (λ t. let z = zero_when done t in
       let k = frame_reaches s p (length m) n z in
       let e : n ≡ 0 + n = sym (zero-add n) in
       entries_keep k.1 n 0 (framed s frame m) (subst (λ (i : ℕ). i ≤ s.count) e k.0)

@@ -5,10 +5,10 @@ use mathlib.Core.List.{List}
 use Prim.Native.Nat.{ℕ, suc, ◌+◌, ◌-◌, ◌*◌, ◌≤◌, ◌<◌, zero-le}
 use native.Mathlib.Nat.{le_trans, le_of_eq, mul-le-mul_right, suc-mul, sub-zero, zero-add, add-zero, add_assoc}
 use native.Mathlib.Omega.{arith}
-use borrow.Author.Tests.{eq-eqb, ne_eqb}
 use lib.ListN.{length, get_or, set, length-set}
 use lib.Ieee.{Float, nan}
 use Rattle.binary32.specs.Leaves.{zero32}
+use Rattle.refusals.proofs.Codes.{done_at, refused_at}
 use Rattle.common_types.specs.declared.Params.{Params}
 use Rattle.walks.proofs.Lists.Loops.{get_d_any}
 use Rattle.sampler.specs.Refusals.{frame_number}
@@ -106,18 +106,18 @@ module _ {goal : Framed} {p : Params} {n size : ℕ} {s : Sampler} {io : List Fl
 module _ (s : Sampler) (io : List Float) (p : Params) (m : List ℕ) where
   pub frame_refused : (frame_number s (length io) p (length m) ≡ 0 → ⊥) → Frames (framed_of s io p m) s io m
   unfolding framed_of
-  frame_refused h = subst (λ (f : Framed). Frames f s io m) (sym (ap (λ (b : Bool). cond b (entries_of p (length io) 0 (framed s io m)) (framed s io m)) (ne_eqb _ _ h))) (record { sampler = refl; frame = refl; memory = refl })
+  frame_refused h = subst (λ (f : Framed). Frames f s io m) (sym (ap (λ (b : Bool). cond b (entries_of p (length io) 0 (framed s io m)) (framed s io m)) (refused_at _ h))) (record { sampler = refl; frame = refl; memory = refl })
 
   pub moved_refused : (frame_number s (length io) p (length m) ≡ 0 → ⊥) → frame_moved s io p m ≡ 0
   unfolding frame_moved
-  moved_refused h = ap (λ (b : Bool). cond b (entries_moved p (length io) 0 (framed s io m)) 0) (ne_eqb _ _ h)
+  moved_refused h = ap (λ (b : Bool). cond b (entries_moved p (length io) 0 (framed s io m)) 0) (refused_at _ h)
 
   pub moved_done : frame_number s (length io) p (length m) ≡ 0 → frame_moved s io p m ≡ entries_moved p (length io) 0 (framed s io m)
   unfolding frame_moved
-  moved_done h = ap (λ (b : Bool). cond b (entries_moved p (length io) 0 (framed s io m)) 0) (eq-eqb _ _ h)
+  moved_done h = ap (λ (b : Bool). cond b (entries_moved p (length io) 0 (framed s io m)) 0) (done_at _ h)
 
   pub frame_done : {s' : Sampler} {io' : List Float} {m' : List ℕ} → frame_number s (length io) p (length m) ≡ 0
       → Frames (entries_of p (length io) 0 (framed s io m)) s' io' m' → Frames (framed_of s io p m) s' io' m'
   unfolding framed_of
   frame_done {s'} {io'} {m'} h f =
-      subst (λ (g : Framed). Frames g s' io' m') (sym (ap (λ (b : Bool). cond b (entries_of p (length io) 0 (framed s io m)) (framed s io m)) (eq-eqb _ _ h))) f
+      subst (λ (g : Framed). Frames g s' io' m') (sym (ap (λ (b : Bool). cond b (entries_of p (length io) 0 (framed s io m)) (framed s io m)) (done_at _ h))) f

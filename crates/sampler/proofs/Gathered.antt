@@ -7,15 +7,16 @@ use Prim.Native.Nat.{ℕ, zero, suc, ◌+◌, ◌*◌, ◌≤◌, ◌<◌, zero-
 use native.Mathlib.Nat.{le_refl, le_trans, le_of_eq, mul-le-mul_right, suc-mul, zero-add, eq-or-lt_of_le}
 use native.Mathlib.Omega.{arith}
 use native.Mathlib.Numerals.{add-one}
-use borrow.Author.Tests.{ne_eqb, eq-eqb, eqb-true}
-use lib.Dec.{eqb}
+use Rattle.std.specs.Prelude.{Result, is_ok}
 use lib.ListN.{length, take, drop, set, length-set}
 use lib.Seq.{drop-drop, get_or-set_same, get_or-set_other}
+use Rattle.refusals.specs.declared.Refusal.{Refusal}
+use Rattle.refusals.proofs.Codes.{done_at, zero_at, refused_at}
 use Rattle.channel.specs.declared.Channel.{Channel}
 use Rattle.phrases.specs.Gathering.{Gathering, gather_next, gather_turns, gathering_of}
 use Rattle.phrases.proofs.Fits.{Fits, turn_length, turn-fits}
 use Rattle.channel.specs.Channels.{phrases_in, gathered_in, gathered_memory}
-use Rattle.sampler.specs.Refusals.{channel_at, gather_number}
+use Rattle.sampler.specs.Refusals.{channel_at, gather_judged, gather_number}
 use Rattle.sampler.specs.Samplers.{with_channels, part_of, Gathered, gather_channel, gather_channels, gathered_all, gather_of, gather_memory}
 use Rattle.sampler.specs.declared.Sampler.{Sampler}
 use Rattle.sampler.proofs.Rows.{gather_steps}
@@ -63,14 +64,14 @@ module _ (P : Gathered → Type 0) (keeps : (j : ℕ) (g : Gathered) → Reaches
 
   pub gather_keeps : (s : Sampler) (m : List ℕ) → P (gathered s m) → P (gathered (gather_of s m).sampler (gather_memory s m))
   unfolding gather_of gather_memory
-  gather_keeps s m h = go (eqb number 0) refl
+  gather_keeps s m h = go (is_ok done) refl
     where
-      number : ℕ
-      number = gather_number s (length m)
+      done : Result (Unit {0}) Refusal
+      done = gather_judged s (length m)
 
-      go : (b : Bool) → eqb number 0 ≡ b → P (gathered (cond b (gathered_all s m).sampler s) (cond b (gathered_all s m).memory m))
+      go : (b : Bool) → is_ok done ≡ b → P (gathered (cond b (gathered_all s m).sampler s) (cond b (gathered_all s m).memory m))
       go true e =
-          let k = gather_steps s (length m) (eqb-true number 0 e) in
+          let k = gather_steps s (length m) (zero_at done e) in
           gathers_keep s.count 0 (gathered s m) (le_of_eq (zero-add s.count))
           (le_trans (le_of_eq (ap (λ (n : ℕ). n * s.capacity) (zero-add s.count))) k.parts) h
       go false e = h
@@ -88,11 +89,11 @@ gather_same s m =
 module _ (s : Sampler) (m : List ℕ) (no : gather_number s (length m) ≢ 0) where
   pub gather_refused : (gather_of s m).sampler ≡ s
   unfolding gather_of
-  gather_refused = ap (λ (b : Bool). cond b (gathered_all s m).sampler s) (ne_eqb _ _ no)
+  gather_refused = ap (λ (b : Bool). cond b (gathered_all s m).sampler s) (refused_at _ no)
 
   pub gather_leaves : gather_memory s m ≡ m
   unfolding gather_memory
-  gather_leaves = ap (λ (b : Bool). cond b (gathered_all s m).memory m) (ne_eqb _ _ no)
+  gather_leaves = ap (λ (b : Bool). cond b (gathered_all s m).memory m) (refused_at _ no)
 
 -- ---- channel by channel
 module _ (s : Sampler) (m : List ℕ) where
@@ -195,11 +196,11 @@ module _ (s : Sampler) (m : List ℕ) where
 
     sampler_is : (gather_of s m).sampler ≡ (gathered_all s m).sampler
     unfolding gather_of
-    sampler_is = ap (λ (b : Bool). cond b (gathered_all s m).sampler s) (eq-eqb _ _ z)
+    sampler_is = ap (λ (b : Bool). cond b (gathered_all s m).sampler s) (done_at _ z)
 
     memory_is : gather_memory s m ≡ (gathered_all s m).memory
     unfolding gather_memory
-    memory_is = ap (λ (b : Bool). cond b (gathered_all s m).memory m) (eq-eqb _ _ z)
+    memory_is = ap (λ (b : Bool). cond b (gathered_all s m).memory m) (done_at _ z)
 
     pub gather_channel_lem : (j : ℕ) → j < s.count → j < length s.channels → channel_at (gather_of s m).sampler j ≡ gathered_in (channel_at s j) (part_of s j m)
     gather_channel_lem j h k = ap (λ (r : Sampler). channel_at r j) sampler_is ∙ done.channels j h k

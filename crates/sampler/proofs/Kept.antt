@@ -5,16 +5,19 @@ use native.Mathlib.Nat.{le_trans, le_of_eq}
 use mathlib.Core.Bool.{true, false, not, ◌&&◌, ◌||◌}
 use mathlib.Core.List.{List, [], ◌∷◌, map}
 use borrow.Author.Tests.{leb-true, leb-false, ltb-false}
-use lib.Dec.{leb, eqb, eqb→eq}
+use Rattle.std.specs.Prelude.{Ok, is_ok}
+use lib.Dec.{leb, eqb}
 use lib.ListN.{length, take, get_or, set, length-set}
 use lib.Seq.{sets, length-sets, get_or-take, length-take-le}
 use lib.Ieee.{Float, le}
 use Rattle.binary32.proofs.Truth.{yes, no, cond_split}
-use Rattle.walks.specs.Walks.{every}
+use Rattle.std.specs.List.{list_all}
 use Rattle.walks.specs.Each.{Each}
 use Rattle.walks.proofs.Lists.Every.{both}
 use Rattle.walks.proofs.Lists.Each.{each_at, each_front, each_set, each_every, each_map, each_weaker, every_each, any_each, front_map}
 use Rattle.binary32.specs.Leaves.{zero32, one32}
+use Rattle.refusals.specs.declared.Refusal.TheVariants.{BadNote, BadPosition, BeyondLimits, Broken, Recording, NoRoom, NoPhrase, PhraseInUse, PhraseRecording}
+use Rattle.refusals.proofs.Codes.{passed, zero_when}
 use Rattle.common_types.specs.declared.InitParams.{InitParams}
 use Rattle.common_types.specs.declared.Params.{Params}
 use Rattle.common_types.specs.Settings.{beyond_limits}
@@ -31,11 +34,11 @@ use Rattle.channel.specs.Soundness.{FittingChannel, SoundChannel, FittingChange,
 use Rattle.channel.proofs.Kept.{new_channel_sound, change_sound}
 use Rattle.channel.proofs.Gathers.{gathered_sound}
 use Rattle.channel.proofs.Samples.{sample_sound}
-use Rattle.sampler.specs.Refusals.{present, channel_at, good_sizes, good_sampler, bad_note, bad_position, against_any, start_rows, stop_rows, change_number, set_up_number, sample_number, capacity_of}
+use Rattle.sampler.specs.Refusals.{present, channel_at, good_sizes, good_sampler, bad_note, bad_position, against_any, start_rows, stop_rows, change_judged, change_number, set_up_judged, set_up_number, sample_judged, capacity_of}
 use Rattle.sampler.specs.Samplers.{with_channels, sampler_of, set_up_of, each_of, answer_of, change_of, part_of, played_at, channel_stepped_of, process_sample_of, Gathered, gather_channel, gather_of, Framed, entry_of, framed_of}
 use Rattle.sampler.specs.Soundness.{SoundSampler}
 use Rattle.sampler.specs.declared.Sampler.{Sampler}
-use Rattle.sampler.proofs.Rows.{passed, is_true, sizes_count}
+use Rattle.sampler.proofs.Rows.{is_true, sizes_count}
 use Rattle.sampler.proofs.Entries.{Reaches, sample_reaches, part_length, frame_keeps}
 use Rattle.sampler.proofs.Gathered.{gather_keeps}
 
@@ -48,7 +51,7 @@ record Parts (s : Sampler) : Type 0 where
 parts : {s : Sampler} → SoundSampler s → Parts s
 unfolding good_sampler
 parts {s} h =
-    let g = both (good_sizes s.count s.capacity) (every (good_channel s.capacity) (present s)) h.good in
+    let g = both (good_sizes s.count s.capacity) (list_all (good_channel s.capacity) (present s)) h.good in
     record {
       sizes = g.0;
       seats = h.fitting.seats;
@@ -118,10 +121,10 @@ module _ (s : Sampler) (h : SoundSampler s) where
 
 -- ---- set-up
 pub set_up_sound : (count : ℕ) (p : InitParams) (size : ℕ) → set_up_number count size ≡ 0 → SoundSampler (set_up_of count p size).sampler
-unfolding set_up_of set_up_number Each
+unfolding set_up_of set_up_judged Each
 set_up_sound count p size h =
     let capacity = capacity_of count size in
-    let good = is_true (good_sizes count capacity) (passed (not (good_sizes count capacity)) 8 0 h).0 in
+    let good = is_true (good_sizes count capacity) (passed (not (good_sizes count capacity)) Broken (Ok tt) h).0 in
     let c = new_channel_sound capacity p in
     rw good (joined {s = sampler_of count p capacity} (record { sizes = good; seats = refl; channels = each_front (SoundChannel capacity) (channel_of p ∷ channel_of p ∷ []) count (c, (c, tt)) }))
 
@@ -131,34 +134,34 @@ set_up_sound count p size h =
 change_let_through : (s : Sampler) (g : SoundSampler s) (x : Change) → change_number s x ≡ 0 → FittingChange x → Each (SoundOn s g x) (present s)
 unfolding start_rows stop_rows asks_of head_asks leaving_of blocked_by FittingChange SoundChange SoundHeadChange
 change_let_through s g (change.Start p position note velocity) h f =
-    let a = (passed (not (good_sampler s)) 8 _ h).1 in
-    let b = passed (bad_position position) 2 _ (passed (bad_note note) 1 _ a).1 in
-    let k = (passed (beyond_limits p) 3 _ b.1).0 in
+    let a = (passed (not (good_sampler s)) Broken _ h).1 in
+    let b = passed (bad_position position) BadPosition _ (passed (bad_note note) BadNote _ a).1 in
+    let k = (passed (beyond_limits p) BeyondLimits _ b.1).0 in
     let d = both (le zero32 position) (le position one32) (is_true (le zero32 position && le position one32) b.0) in
     of_each s g (change.Start p position note velocity) (λ c. (record { within = no k; fitting = f.0 }, record { fitting = f.1; low = yes d.0; high = yes d.1 }, f.2))
 change_let_through s g (change.Stop p note) h f =
-    let a = passed (bad_note note) 1 _ (passed (not (good_sampler s)) 8 _ h).1 in
-    of_each s g (change.Stop p note) (λ c. record { within = no (passed (beyond_limits p) 3 _ a.1).0; fitting = f })
+    let a = passed (bad_note note) BadNote _ (passed (not (good_sampler s)) Broken _ h).1 in
+    of_each s g (change.Stop p note) (λ c. record { within = no (passed (beyond_limits p) BeyondLimits _ a.1).0; fitting = f })
 change_let_through s g (change.Speed note speed) h f = of_each s g (change.Speed note speed) (λ c. f)
 change_let_through s g (change.Head StartRecording) h f = of_each s g (change.Head StartRecording) (λ c. tt)
 change_let_through s g (change.Head StopRecording) h f = of_each s g (change.Head StopRecording) (λ c. tt)
 change_let_through s g (change.Head (Interpolate on)) h f = of_each s g (change.Head (Interpolate on)) (λ c. tt)
 change_let_through s g (change.Head (Load samples)) h f =
-    let a = passed (against_any (Samples samples) s).blocked 14 _ (passed (not (good_sampler s)) 8 _ h).1 in
-    load_on s g samples a.0 (passed (against_any (Samples samples) s).short 17 0 a.1).0
+    let a = passed (against_any (Samples samples) s).blocked Recording _ (passed (not (good_sampler s)) Broken _ h).1 in
+    load_on s g samples a.0 (passed (against_any (Samples samples) s).short NoRoom (Ok tt) a.1).0
 change_let_through s g (change.Head (Choose k)) h f =
-    let a = passed (leb 8 k) 18 _ (passed (not (good_sampler s)) 8 _ h).1 in
-    of_blocked s g (change.Head (Choose k)) (passed (against_any (Choice k) s).blocked 20 0 a.1).0 (λ c e. (leb-false 8 k a.0, e))
+    let a = passed (leb 8 k) NoPhrase _ (passed (not (good_sampler s)) Broken _ h).1 in
+    of_blocked s g (change.Head (Choose k)) (passed (against_any (Choice k) s).blocked PhraseRecording (Ok tt) a.1).0 (λ c e. (leb-false 8 k a.0, e))
 change_let_through s g (change.Head (Delete k)) h f =
-    let a = passed (leb 8 k) 18 _ (passed (not (good_sampler s)) 8 _ h).1 in
-    of_blocked s g (change.Head (Delete k)) (passed (against_any (ask.Delete k) s).blocked 19 0 a.1).0 (λ c e. (leb-false 8 k a.0, e))
+    let a = passed (leb 8 k) NoPhrase _ (passed (not (good_sampler s)) Broken _ h).1 in
+    of_blocked s g (change.Head (Delete k)) (passed (against_any (ask.Delete k) s).blocked PhraseInUse (Ok tt) a.1).0 (λ c e. (leb-false 8 k a.0, e))
 change_let_through s g change.Reset h f = of_each s g change.Reset (λ c. tt)
 
 pub change_kept : (s : Sampler) → SoundSampler s → (x : Change) → FittingChange x → SoundSampler (change_of s x).sampler
 unfolding answer_of
 change_kept s h x f =
-    cond_split SoundSampler (eqb (change_number s x) 0) (each_of x s) s
-    (λ t. each_sound s h x (change_let_through s h x (eqb→eq (change_number s x) 0 t) f)) (λ t. h)
+    cond_split SoundSampler (is_ok (change_judged s x)) (each_of x s) s
+    (λ t. each_sound s h x (change_let_through s h x (zero_when (change_judged s x) t) f)) (λ t. h)
 
 -- ---- a sample, and a frame
 step_kept : (p : Params) → SoundParams p → (s : Sampler) → SoundSampler s → (j : ℕ) (x : Float) (m : List ℕ) → Reaches s j (length m) → SoundSampler (channel_stepped_of s j p x m)
@@ -172,9 +175,9 @@ step_kept p ok s h j x m r =
 pub sample_kept : (s : Sampler) → SoundSampler s → (j : ℕ) (x : Float) (p : Params) (m : List ℕ) → FittingParams p → SoundSampler (process_sample_of s j x p m).sampler
 unfolding process_sample_of
 sample_kept s h j x p m f =
-    let n = sample_number s j p (length m) in
-    cond_split SoundSampler (eqb n 0) (channel_stepped_of s j p x m) s
-    (λ t. let k = sample_reaches s p (length m) j (eqb→eq n 0 t) in
+    let done = sample_judged s j p (length m) in
+    cond_split SoundSampler (is_ok done) (channel_stepped_of s j p x m) s
+    (λ t. let k = sample_reaches s p (length m) j (zero_when done t) in
     step_kept p (record { within = k.1; fitting = f }) s h j x m k.0)
     (λ t. h)
 

@@ -7,20 +7,19 @@ use native.Mathlib.Omega.{arith}
 use borrow.Author.Tests.{leb-true, ltb-true, ltb-false, eqb-true}
 use lib.Dec.{leb, ltb, eqb, leb→le, le→leb}
 use lib.ListN.{length}
+use Rattle.std.specs.Prelude.{Result, Ok, is_ok}
 use Rattle.binary32.proofs.Truth.{same_test}
+use Rattle.refusals.specs.declared.Refusal.{Refusal}
+use Rattle.refusals.specs.declared.Refusal.TheVariants.{NoChannel, Broken, PhraseRecording}
+use Rattle.refusals.proofs.Codes.{passed}
 use Rattle.common_types.specs.declared.Params.{Params}
 use Rattle.walks.proofs.Lists.Every.{both}
 use Rattle.channel.specs.Channels.{live}
-use Rattle.sampler.specs.Refusals.{row, channel_at, good_sizes, good_sampler, good_with, any_recording, gather_number, sample_number, frame_asked_of, frame_rows, frame_number}
+use Rattle.sampler.specs.Refusals.{channel_at, good_sizes, good_sampler, good_with, any_recording, gather_judged, gather_number, sample_judged, sample_number, frame_asked_of, frame_rows, frame_judged, frame_number}
 use Rattle.sampler.specs.Samplers.{Ready, Steps}
 use Rattle.sampler.specs.declared.Sampler.{Sampler}
 use Rattle.sampler.specs.declared.FrameAsked.{FrameAsked}
 use Rattle.sampler.proofs.Channels.{few_live}
-
--- a row that does not hold leaves the number to the rest
-pub passed : (test : Bool) (n rest : ℕ) → row test (suc n) rest ≡ 0 → (test ≡ false) × (rest ≡ 0)
-passed true n rest h = absurd (omega arith)
-passed false n rest h = (refl, h)
 
 pub is_true : (b : Bool) → not b ≡ false → b ≡ true
 is_true true h = refl
@@ -70,10 +69,10 @@ fitting s size h =
 
 -- ---- the steps
 pub sample_ready : (s : Sampler) (j : ℕ) (p : Params) (size : ℕ) → sample_number s j p size ≡ 0 → Ready s j size
-unfolding sample_number
+unfolding sample_judged
 sample_ready s j p size h =
-    let g = passed (not (good_with s size)) 8 _ h in
-    let k = passed (not (ltb j s.count)) 0 _ g.1 in
+    let g = passed (not (good_with s size)) Broken _ h in
+    let k = passed (not (ltb j s.count)) NoChannel _ g.1 in
     let f = fitting s size (is_true (good_with s size) g.0) in
     let b : j < s.count = ltb-true j s.count (is_true (ltb j s.count) k.0) in
     record {
@@ -82,10 +81,10 @@ sample_ready s j p size h =
     }
 
 pub frame_steps : (s : Sampler) (n : ℕ) (p : Params) (size : ℕ) → frame_number s n p size ≡ 0 → Steps s n size
-unfolding frame_number
+unfolding frame_judged
 frame_steps s n p size h =
-    let g = passed (not (good_with s size)) 8 _ h in
-    let k = passed (ltb s.count n) 0 _ g.1 in
+    let g = passed (not (good_with s size)) Broken _ h in
+    let k = passed (ltb s.count n) NoChannel _ g.1 in
     let f = fitting s size (is_true (good_with s size) g.0) in
     let b : n ≤ s.count = ltb-false s.count n k.0 in
     record {
@@ -95,25 +94,26 @@ frame_steps s n p size h =
 
 -- ---- a gather
 pub gather_says : (s : Sampler) (size : ℕ) → gather_number s size ≡ 0 → (good_with s size ≡ true) × (any_recording s ≡ false)
-unfolding gather_number
+unfolding gather_judged
 gather_says s size h =
-    let g = passed (not (good_with s size)) 8 _ h in
-    (is_true (good_with s size) g.0, (passed (any_recording s) 20 0 g.1).0)
+    let g = passed (not (good_with s size)) Broken _ h in
+    (is_true (good_with s size) g.0, (passed (any_recording s) PhraseRecording (Ok tt) g.1).0)
 
 pub gather_steps : (s : Sampler) (size : ℕ) → gather_number s size ≡ 0 → Steps s s.count size
 gather_steps s size h = let f = fitting s size (gather_says s size h).0 in record { below = f.few; parts = f.fits }
 
--- what is asked of the record gives its number
-pub frame_asked : (s : Sampler) (n : ℕ) (p : Params) (size number : ℕ) (a : FrameAsked) → number ≡ frame_rows a n p → a ≡ frame_asked_of s n size → number ≡ frame_number s n p size
-unfolding frame_number
-frame_asked s n p size number a e f = e ∙ ap (λ (b : FrameAsked). frame_rows b n p) f
+-- what is asked of the record tells how the frame is judged
+pub frame_asked : (s : Sampler) (n : ℕ) (p : Params) (size : ℕ) (done : Result (Unit {0}) Refusal) (a : FrameAsked) → done ≡ frame_rows a n p → a ≡ frame_asked_of s n size
+    → done ≡ frame_judged s n p size
+unfolding frame_judged
+frame_asked s n p size done a e f = e ∙ ap (λ (b : FrameAsked). frame_rows b n p) f
 
 -- a channel that a frame steps has at most 32 voices
 pub frame_few : (s : Sampler) (n : ℕ) (p : Params) (size : ℕ) → frame_number s n p size ≡ 0 → (j : ℕ) → j < n → length (live (channel_at s j)) ≤ 32
-unfolding frame_number good_with
+unfolding frame_judged good_with
 frame_few s n p size h j k =
-    let g = passed (not (good_with s size)) 8 _ h in
-    let b : n ≤ s.count = ltb-false s.count n (passed (ltb s.count n) 0 _ g.1).0 in
+    let g = passed (not (good_with s size)) Broken _ h in
+    let b : n ≤ s.count = ltb-false s.count n (passed (ltb s.count n) NoChannel _ g.1).0 in
     few_live s j (both (good_sampler s) (leb (s.count * s.capacity) size) (is_true (good_with s size) g.0)).0 (omega (arith, b))
 
 -- a product is at most a number exactly where a factor is at most its quotient by the other

@@ -1,9 +1,26 @@
--- Document 01's table: which number each call answers, in the table's order, and 0 where none of its rows holds.
+-- Document 01's table: how each call is refused, in the table's order, and its number, 0 where none of its rows holds.
 -- Definitions only.
-use Rattle.std.specs.Prelude.{ℕ, ◌-◌, ◌*◌, ◌/◌, ◌%◌, ◌^◌, min, max, Bool, false, not, ◌&&◌, ◌||◌, cond, List, leb, ltb, eqb, take, get_or, Float}
+use Rattle.std.specs.Prelude.{ℕ, ◌-◌, ◌*◌, ◌/◌, ◌%◌, ◌^◌, min, max, Bool, true, false, not, ◌&&◌, ◌||◌, cond, List, leb, ltb, eqb, take, get_or, Float, Result, Ok, Err}
 use Rattle.std.specs.Float.Ieee.{le}
-use Rattle.walks.specs.Walks.{any, every, fold}
+use Rattle.std.specs.List.{list_any, list_all, fold}
 use Rattle.binary32.specs.Leaves.{zero32, one32}
+use Rattle.refusals.specs.declared.Refusal.{Refusal}
+use Rattle.refusals.specs.declared.Refusal.TheVariants.{
+  NoChannel,
+  BadNote,
+  BadPosition,
+  BeyondLimits,
+  Full,
+  ClockEnd,
+  Broken,
+  BadRun,
+  Recording,
+  NoRoom,
+  NoPhrase,
+  PhraseInUse,
+  PhraseRecording,
+}
+use Rattle.refusals.specs.Refusals.{code_of, row}
 use Rattle.common_types.specs.declared.Params.{Params}
 use Rattle.common_types.specs.declared.Note.{Note}
 use Rattle.common_types.specs.Settings.{beyond_limits}
@@ -44,7 +61,7 @@ unfoldable pub good_sizes : ℕ → ℕ → Bool
 good_sizes count capacity = (eqb count 1 || eqb count 2) && leb 1 capacity && leb capacity (2 ^ 22)
 
 unfoldable pub good_sampler : Sampler → Bool
-good_sampler s = good_sizes s.count s.capacity && every (good_channel s.capacity) (present s)
+good_sampler s = good_sizes s.count s.capacity && list_all (good_channel s.capacity) (present s)
 
 -- the lent memory's length divided by the channel count, rounded down, at most 2 ^ 22
 unfoldable pub capacity_of : ℕ → ℕ → ℕ
@@ -66,20 +83,20 @@ abbrev pub bad_position : Float → Bool
 bad_position position = not (le zero32 position && le position one32)
 
 abbrev pub any_full : Sampler → Bool
-any_full s = any full_of (present s)
+any_full s = list_any full_of (present s)
 
 -- row 15 of request 10/12
 abbrev pub records : Channel → Bool
 records c = is_recording_of c.head.recorder
 
 abbrev pub any_recording : Sampler → Bool
-any_recording s = any records (present s)
+any_recording s = list_any records (present s)
 
 -- what the channels in use have against what a change asks: one of them has something in its way, or too little room
 unfoldable pub against_any : Ask → Sampler → Against
 against_any a s = record {
-  blocked = any (λ (c : Channel). (against_of s.capacity a c).blocked) (present s);
-  short = any (λ (c : Channel). (against_of s.capacity a c).short) (present s);
+  blocked = list_any (λ (c : Channel). (against_of s.capacity a c).blocked) (present s);
+  short = list_any (λ (c : Channel). (against_of s.capacity a c).short) (present s);
 }
 
 -- the clock of a channel that would be stepped stands at its end
@@ -92,59 +109,76 @@ asked_of s x = record { good = good_sampler s; against = against_any (asks_of x)
 
 -- a frame of n entries steps the first n channels
 abbrev pub frame_asked_of : Sampler → ℕ → ℕ → FrameAsked
-frame_asked_of s n size = record { good = good_with s size; count = s.count; ended = any at_end (take n s.channels) }
+frame_asked_of s n size = record { good = good_with s size; count = s.count; ended = list_any at_end (take n s.channels) }
 
--- ---- the number of each call: that of the first `row` whose test holds, and 0 at the end of a chain
-abbrev pub row : Bool → ℕ → ℕ → ℕ
-row test number rest = cond test number rest
+-- ---- how each call is judged: as the first `row` whose test holds refuses it, and done where none does. Its number is
+-- the `code_of` that
+unfoldable pub set_up_judged : ℕ → ℕ → Result (Unit {0}) Refusal
+set_up_judged count size = row (not (good_sizes count (capacity_of count size))) Broken (Ok tt)
 
-unfoldable pub set_up_number : ℕ → ℕ → ℕ
-set_up_number count size = row (not (good_sizes count (capacity_of count size))) 9 0
+abbrev pub set_up_number : ℕ → ℕ → ℕ
+set_up_number count size = code_of (set_up_judged count size)
 
-unfoldable pub start_rows : Asked → Float → Note → Params → ℕ
+unfoldable pub start_rows : Asked → Float → Note → Params → Result (Unit {0}) Refusal
 start_rows a position note p =
-    row (not a.good) 9
-    (row (bad_note note) 2 (row (bad_position position) 3 (row (beyond_limits p) 4 (row a.against.blocked 5 0))))
+    row (not a.good) Broken
+    (row (bad_note note) BadNote
+    (row (bad_position position) BadPosition
+    (row (beyond_limits p) BeyondLimits (row a.against.blocked Full (Ok tt)))))
 
-unfoldable pub stop_rows : Asked → Note → Params → ℕ
-stop_rows a note p = row (not a.good) 9 (row (bad_note note) 2 (row (beyond_limits p) 4 0))
+unfoldable pub stop_rows : Asked → Note → Params → Result (Unit {0}) Refusal
+stop_rows a note p =
+    row (not a.good) Broken (row (bad_note note) BadNote (row (beyond_limits p) BeyondLimits (Ok tt)))
 
-unfoldable pub speed_rows : Asked → Note → ℕ
-speed_rows a note = row (not a.good) 9 (row (bad_note note) 2 0)
+unfoldable pub speed_rows : Asked → Note → Result (Unit {0}) Refusal
+speed_rows a note = row (not a.good) Broken (row (bad_note note) BadNote (Ok tt))
 
 -- what a change of the heads has behind row 9: start and stop of recording, and request 7/12's setting, nothing; a
 -- recording that is loaded (10/12), "15 while recording" and "18 for more samples" than it may hold; a choice and a delete
 -- (11/12) "19 for a phrase number of eight or more", then "21 for .. a new choice of phrase while recording", "20 for a
 -- delete of a phrase in use or being recorded"
-abbrev pub head_rows : Asked → HeadChange → ℕ
-head_rows a StartRecording = 0
-head_rows a StopRecording = 0
-head_rows a (Interpolate on) = 0
-head_rows a (Load samples) = row a.against.blocked 15 (row a.against.short 18 0)
-head_rows a (Choose k) = row (leb 8 k) 19 (row a.against.blocked 21 0)
-head_rows a (Delete k) = row (leb 8 k) 19 (row a.against.blocked 20 0)
+abbrev pub head_rows : Asked → HeadChange → Result (Unit {0}) Refusal
+head_rows a StartRecording = Ok tt
+head_rows a StopRecording = Ok tt
+head_rows a (Interpolate on) = Ok tt
+head_rows a (Load samples) = row a.against.blocked Recording (row a.against.short NoRoom (Ok tt))
+head_rows a (Choose k) = row (leb 8 k) NoPhrase (row a.against.blocked PhraseRecording (Ok tt))
+head_rows a (Delete k) = row (leb 8 k) NoPhrase (row a.against.blocked PhraseInUse (Ok tt))
 
 -- a call that changes every channel, by its change
-abbrev pub change_rows : Asked → Change → ℕ
+abbrev pub change_rows : Asked → Change → Result (Unit {0}) Refusal
 change_rows a (change.Start p position note velocity) = start_rows a position note p
 change_rows a (change.Stop p note) = stop_rows a note p
 change_rows a (change.Speed note speed) = speed_rows a note
-change_rows a (change.Head d) = row (not a.good) 9 (head_rows a d)
-change_rows a change.Reset = row (not a.good) 9 0
+change_rows a (change.Head d) = row (not a.good) Broken (head_rows a d)
+change_rows a change.Reset = row (not a.good) Broken (Ok tt)
+
+abbrev pub change_judged : Sampler → Change → Result (Unit {0}) Refusal
+change_judged s x = change_rows (asked_of s x) x
 
 abbrev pub change_number : Sampler → Change → ℕ
-change_number s x = change_rows (asked_of s x) x
+change_number s x = code_of (change_judged s x)
 
-unfoldable pub sample_number : Sampler → ℕ → Params → ℕ → ℕ
-sample_number s j p size = row (not (good_with s size)) 9
-    (row (no_channel s j) 1 (row (beyond_limits p) 4 (row (at_end (channel_at s j)) 6 0)))
+unfoldable pub sample_judged : Sampler → ℕ → Params → ℕ → Result (Unit {0}) Refusal
+sample_judged s j p size =
+    row (not (good_with s size)) Broken
+    (row (no_channel s j) NoChannel
+    (row (beyond_limits p) BeyondLimits (row (at_end (channel_at s j)) ClockEnd (Ok tt))))
+
+abbrev pub sample_number : Sampler → ℕ → Params → ℕ → ℕ
+sample_number s j p size = code_of (sample_judged s j p size)
 
 -- a frame of n entries
-abbrev pub frame_rows : FrameAsked → ℕ → Params → ℕ
-frame_rows a n p = row (not a.good) 9 (row (ltb a.count n) 1 (row (beyond_limits p) 4 (row a.ended 6 0)))
+abbrev pub frame_rows : FrameAsked → ℕ → Params → Result (Unit {0}) Refusal
+frame_rows a n p =
+    row (not a.good) Broken
+    (row (ltb a.count n) NoChannel (row (beyond_limits p) BeyondLimits (row a.ended ClockEnd (Ok tt))))
 
-unfoldable pub frame_number : Sampler → ℕ → Params → ℕ → ℕ
-frame_number s n p size = frame_rows (frame_asked_of s n size) n p
+unfoldable pub frame_judged : Sampler → ℕ → Params → ℕ → Result (Unit {0}) Refusal
+frame_judged s n p size = frame_rows (frame_asked_of s n size) n p
+
+abbrev pub frame_number : Sampler → ℕ → Params → ℕ → ℕ
+frame_number s n p size = code_of (frame_judged s n p size)
 
 -- ---- a run of frames (request 3/12): each entry of it is one channel's, frame after frame
 
@@ -164,30 +198,46 @@ abbrev pub run_asked_of : Sampler → ℕ → RunAsked
 run_asked_of s size = record { good = good_with s size; count = s.count; room = frames_left s }
 
 -- a run of n entries: "9, then 10 for a length that isn't a whole number of frames, then 4, then 6"
-abbrev pub run_rows : RunAsked → ℕ → Params → ℕ
+abbrev pub run_rows : RunAsked → ℕ → Params → Result (Unit {0}) Refusal
 run_rows a n p =
-    row (not a.good) 9
-    (row (not (eqb (n % a.count) 0)) 10 (row (beyond_limits p) 4 (row (ltb a.room (n / a.count)) 6 0)))
+    row (not a.good) Broken
+    (row (not (eqb (n % a.count) 0)) BadRun
+    (row (beyond_limits p) BeyondLimits (row (ltb a.room (n / a.count)) ClockEnd (Ok tt))))
 
-unfoldable pub run_number : Sampler → ℕ → Params → ℕ → ℕ
-run_number s n p size = run_rows (run_asked_of s size) n p
+unfoldable pub run_judged : Sampler → ℕ → Params → ℕ → Result (Unit {0}) Refusal
+run_judged s n p size = run_rows (run_asked_of s size) n p
 
--- the frames of it that are done: with 6, "the one refusal after work has begun", those that there is room for; with 9,
--- 10 and 4 none
-abbrev pub done_with : ℕ → RunAsked → ℕ → ℕ
-done_with number a n = cond (eqb number 0 || eqb number 6) (min (n / a.count) a.room) 0
+abbrev pub run_number : Sampler → ℕ → Params → ℕ → ℕ
+run_number s n p size = code_of (run_judged s n p size)
+
+-- a run so judged has begun: it is done or, "the one refusal after work has begun", it meets a clock's end
+abbrev pub begun : Result (Unit {0}) Refusal → Bool
+begun done = eqb (code_of done) 0 || eqb (code_of done) 6
+
+-- the frames of it that are done: with 6 those that there is room for, and with 9, 10 and 4 none
+abbrev pub done_with : Result (Unit {0}) Refusal → RunAsked → ℕ → ℕ
+done_with done a n = cond (begun done) (min (n / a.count) a.room) 0
 
 unfoldable pub done_of : Sampler → ℕ → Params → ℕ → ℕ
-done_of s n p size = done_with (run_number s n p size) (run_asked_of s size) n
+done_of s n p size = done_with (run_judged s n p size) (run_asked_of s size) n
 
 -- both
 unfoldable pub run_done : RunAsked → ℕ → Params → Ran
-run_done a n p = record { frames = done_with (run_rows a n p) a n; number = run_rows a n p }
+run_done a n p = record { frames = done_with (run_rows a n p) a n; done = run_rows a n p }
 
 -- a gather of the phrases (11/12): "21 for a gather .. while recording"
-unfoldable pub gather_number : Sampler → ℕ → ℕ
-gather_number s size = row (not (good_with s size)) 9 (row (any_recording s) 21 0)
+unfoldable pub gather_judged : Sampler → ℕ → Result (Unit {0}) Refusal
+gather_judged s size = row (not (good_with s size)) Broken (row (any_recording s) PhraseRecording (Ok tt))
 
--- a question of one channel
-unfoldable pub channel_number : Sampler → ℕ → ℕ
-channel_number s j = row (not (good_sampler s)) 9 (row (no_channel s j) 1 0)
+abbrev pub gather_number : Sampler → ℕ → ℕ
+gather_number s size = code_of (gather_judged s size)
+
+-- a question of one channel, before the rows of its own
+abbrev pub question_rows : {A : Type 0} → Sampler → ℕ → Result A Refusal → Result A Refusal
+question_rows s j rest = row (not (good_sampler s)) Broken (row (no_channel s j) NoChannel rest)
+
+unfoldable pub channel_judged : Sampler → ℕ → Result (Unit {0}) Refusal
+channel_judged s j = question_rows s j (Ok tt)
+
+abbrev pub channel_number : Sampler → ℕ → ℕ
+channel_number s j = code_of (channel_judged s j)

@@ -1,10 +1,11 @@
 -- What each call does to the record and the memory lent with it (document 01, module 6). On a refusal both hold what
 -- they held. Definitions only.
-use Rattle.std.specs.Prelude.{◌≡◌, ℕ, zero, suc, ◌+◌, ◌*◌, ◌≤◌, ◌<◌, Bool, cond, List, [], ◌∷◌, ◌++◌, map, eqb, length, take, drop, get_or, set, Float}
+use Rattle.std.specs.Prelude.{◌≡◌, ℕ, zero, suc, ◌+◌, ◌*◌, ◌≤◌, ◌<◌, Bool, cond, List, [], ◌∷◌, ◌++◌, map, length, take, drop, get_or, set, Float, Result, is_ok}
 use Rattle.std.proofs.lemmas.List.Edits.{sets}
 use Rattle.std.specs.Float.{binary32}
 use Rattle.std.specs.Float.Ieee.{mul}
 use Rattle.binary32.specs.Leaves.{zero32}
+use Rattle.refusals.specs.declared.Refusal.{Refusal}
 use Rattle.common_types.specs.declared.InitParams.{InitParams}
 use Rattle.common_types.specs.declared.Params.{Params}
 use Rattle.common_types.specs.declared.Note.{Note}
@@ -25,12 +26,12 @@ use Rattle.sampler.specs.Refusals.{
   present,
   channel_at,
   capacity_of,
-  set_up_number,
-  change_number,
-  gather_number,
-  sample_number,
-  frame_number,
-  run_number,
+  set_up_judged,
+  change_judged,
+  gather_judged,
+  sample_judged,
+  frame_judged,
+  run_judged,
   done_of,
 }
 use Rattle.sampler.specs.declared.Sampler.{Sampler}
@@ -48,21 +49,21 @@ sampler_of count p capacity = record { channels = channel_of p ∷ channel_of p 
 -- refused, it hands back a record of no channels, which every call answers with 9
 unfoldable pub set_up_of : ℕ → InitParams → ℕ → Answer
 set_up_of count p size = record {
-  sampler = cond (eqb (set_up_number count size) 0) (sampler_of count p (capacity_of count size)) (sampler_of 0 p 0);
-  number = set_up_number count size;
+  sampler = cond (is_ok (set_up_judged count size)) (sampler_of count p (capacity_of count size)) (sampler_of 0 p 0);
+  done = set_up_judged count size;
 }
 
 -- ---- calls that change every channel, all or none
 unfoldable pub each_of : Change → Sampler → Sampler
 each_of change s = with_channels (sets s.channels 0 (map (changed_of change) (present s))) s
 
--- the change where the number is 0
-unfoldable pub answer_of : ℕ → Change → Sampler → Answer
-answer_of number change s = record { sampler = cond (eqb number 0) (each_of change s) s; number = number }
+-- the change where it isn't refused
+unfoldable pub answer_of : Result (Unit {0}) Refusal → Change → Sampler → Answer
+answer_of done change s = record { sampler = cond (is_ok done) (each_of change s) s; done = done }
 
 -- the call that makes it, under whatever name
 abbrev pub change_of : Sampler → Change → Answer
-change_of s change = answer_of (change_number s change) change s
+change_of s change = answer_of (change_judged s change) change s
 
 abbrev pub start_playing_of : Sampler → Float → Note → Float → Params → Answer
 start_playing_of s position note velocity p = change_of s (change.Start p position note velocity)
@@ -134,16 +135,16 @@ memory_at s j x m = take (j * s.capacity) m
 
 unfoldable pub process_sample_of : Sampler → ℕ → Float → Params → List ℕ → SampleAnswer
 process_sample_of s j x p m =
-    let number = sample_number s j p (length m) in
+    let done = sample_judged s j p (length m) in
     record {
-      sampler = cond (eqb number 0) (channel_stepped_of s j p x m) s;
-      output = cond (eqb number 0) (output_of s j p x m) zero32;
-      number = number;
-      moved = cond (eqb number 0) (moved_at s j p x m) 0;
+      sampler = cond (is_ok done) (channel_stepped_of s j p x m) s;
+      output = cond (is_ok done) (output_of s j p x m) zero32;
+      done = done;
+      moved = cond (is_ok done) (moved_at s j p x m) 0;
     }
 
 unfoldable pub sample_memory : Sampler → ℕ → Float → Params → List ℕ → List ℕ
-sample_memory s j x p m = cond (eqb (sample_number s j p (length m)) 0) (memory_at s j x m) m
+sample_memory s j x p m = cond (is_ok (sample_judged s j p (length m))) (memory_at s j x m) m
 
 -- ---- a gather (request 11/12): the phrases of each channel in use are moved down in its part
 pub record Gathered : Type 0 where
@@ -169,11 +170,11 @@ gathered_all s m = gather_channels s.count 0 (record { sampler = s; memory = m }
 
 unfoldable pub gather_of : Sampler → List ℕ → Answer
 gather_of s m =
-    let number = gather_number s (length m) in
-    record { sampler = cond (eqb number 0) (gathered_all s m).sampler s; number = number }
+    let done = gather_judged s (length m) in
+    record { sampler = cond (is_ok done) (gathered_all s m).sampler s; done = done }
 
 unfoldable pub gather_memory : Sampler → List ℕ → List ℕ
-gather_memory s m = cond (eqb (gather_number s (length m)) 0) (gathered_all s m).memory m
+gather_memory s m = cond (is_ok (gather_judged s (length m))) (gathered_all s m).memory m
 
 -- ---- a frame: a sample of each channel in turn, each entry replaced by its output
 pub record Framed : Type 0 where
@@ -205,7 +206,7 @@ entries_of p (suc n) j f = entries_of p n (j + 1) (entry_of p j f)
 unfoldable pub framed_of : Sampler → List Float → Params → List ℕ → Framed
 framed_of s frame p m =
     let f = framed s frame m in
-    cond (eqb (frame_number s (length frame) p (length m)) 0) (entries_of p (length frame) 0 f) f
+    cond (is_ok (frame_judged s (length frame) p (length m))) (entries_of p (length frame) 0 f) f
 
 -- how many voices move up in these entries: the sum over their channels
 unfoldable pub entries_moved : Params → ℕ → ℕ → Framed → ℕ
@@ -214,7 +215,7 @@ entries_moved p (suc n) j f =
     moved_at f.sampler j p (get_or f.frame j zero32) f.memory + entries_moved p n (j + 1) (entry_of p j f)
 
 unfoldable pub frame_moved : Sampler → List Float → Params → List ℕ → ℕ
-frame_moved s frame p m = cond (eqb (frame_number s (length frame) p (length m)) 0)
+frame_moved s frame p m = cond (is_ok (frame_judged s (length frame) p (length m)))
     (entries_moved p (length frame) 0 (framed s frame m)) 0
 
 -- ---- a run of frames (request 3/12): the front entries, one for each channel in use, as a frame, then the rest
@@ -234,4 +235,4 @@ ran_of s run p m = frames_of p (done_of s (length run) p (length m)) (framed s r
 
 -- what the call answers for a run of n entries
 unfoldable pub run_answer : Sampler → ℕ → Params → ℕ → Ran
-run_answer s n p size = record { frames = done_of s n p size; number = run_number s n p size }
+run_answer s n p size = record { frames = done_of s n p size; done = run_judged s n p size }

@@ -2,17 +2,16 @@
 // arguments, and equals a definition in specs/. On a refusal the record and what is lent with it hold what they held.
 #![tactic(auto)]
 
-ghost use Rattle.std.specs.Prelude.{◌≡◌, ◌+◌, ◌*◌, ◌/◌, ◌%◌, ◌≤◌, ◌<◌, min, ◌&&◌, leb, length, take};
+ghost use Rattle.std.specs.Prelude.{◌≡◌, ◌+◌, ◌*◌, ◌/◌, ◌%◌, ◌≤◌, ◌<◌, min, ◌&&◌, leb, length, take, Ok};
 ghost use Rattle.std.specs.Float.Ieee.{le};
 ghost use Rattle.binary32.specs.Leaves.{zero32, one32};
-ghost use Rattle.walks.specs.Walks.{any, every};
+ghost use Rattle.std.specs.List.{list_any, list_all};
 ghost use Rattle.channel.specs.declared.Change.TheVariants.{Head};
 ghost use Rattle.channel.specs.declared.HeadChange.TheVariants.{Load};
 ghost use Rattle.channel.specs.Channels.{good_channel};
 ghost use Rattle.sampler.specs.Refusals.{
   present,
   channel_at,
-  row,
   good_sizes,
   good_sampler,
   capacity_of,
@@ -20,24 +19,23 @@ ghost use Rattle.sampler.specs.Refusals.{
   any_recording,
   against_any,
   at_end,
-  set_up_number,
+  set_up_judged,
   asked_of,
   start_rows,
   stop_rows,
   speed_rows,
   head_rows,
   change_rows,
-  gather_number,
-  sample_number,
+  gather_judged,
+  sample_judged,
   frame_asked_of,
   frame_rows,
-  frame_number,
+  frame_judged,
   latest_of,
   frames_left,
   run_asked_of,
   run_rows,
   run_done,
-  channel_number,
 };
 ghost use Rattle.sampler.specs.Samplers.{
   set_up_of,
@@ -79,7 +77,7 @@ ghost use Rattle.sampler.specs.Samplers.{
 use channel::{Against, Ask, Change, Channel, HeadChange};
 pub use common_types::LoopMode;
 use common_types::{InitParams, Note, Params};
-use walks::{larger, smaller};
+use refusals::Refusal;
 
 // The most samples a channel holds.
 const MOST_SAMPLES: usize = 0x40_0000;
@@ -92,35 +90,36 @@ pub struct Sampler {
     pub capacity: usize,
 }
 
-// What a call leaves, and its number.
+// What a call leaves, and whether it was refused. These answers stay structs, and are no `Result<Sampler, Refusal>`: a call
+// by value hands the record back on a refusal too, as it was.
 #[derive(Clone, Copy)]
 pub struct Answer {
     pub sampler: Sampler,
-    pub number: u8,
+    pub done: Result<(), Refusal>,
 }
 
-// What a sample leaves and its output, its number, and how many voices moved up as others left.
+// What a sample leaves and its output, whether it was refused, and how many voices moved up as others left.
 #[derive(Clone, Copy)]
 pub struct SampleAnswer {
     pub sampler: Sampler,
     pub output: f32,
-    pub number: u8,
+    pub done: Result<(), Refusal>,
     pub moved: u8,
 }
 
-// What a frame leaves, its number, and how many voices of its channels moved up.
+// What a frame leaves, whether it was refused, and how many voices of its channels moved up.
 #[derive(Clone, Copy)]
 pub struct FrameAnswer {
     pub sampler: Sampler,
-    pub number: u8,
+    pub done: Result<(), Refusal>,
     pub moved: u8,
 }
 
-// The frames of a run that are done, and its number.
+// The frames of a run that are done, and whether it was refused: at a clock's end some frames are done all the same.
 #[derive(Clone, Copy)]
 pub struct Ran {
     pub frames: usize,
-    pub number: u8,
+    pub done: Result<(), Refusal>,
 }
 
 // What a run of frames leaves, and what it answers.
@@ -168,35 +167,21 @@ struct Entered {
     moved: u8,
 }
 
+#[tactic(auto, unfolding(crate::specs::Refusals::good_sizes))]
 pub fn good_sizes(count: usize, capacity: usize) -> bool
     ensures { result ≡ good_sizes count capacity }
 {
-    if (count == 1) | (count == 2) {
-        (1 <= capacity) & (capacity <= MOST_SAMPLES)
-    } else {
-        false
-    }
+    ((count == 1) | (count == 2)) & (1 <= capacity) & (capacity <= MOST_SAMPLES)
 }
 
-// How many channels there are to walk: the count, and never more than the array has.
-pub fn places(count: usize) -> usize
-    ensures { result ≡ min count 2 }
-{
-    if count < 2 { count } else { 2 }
-}
-
+#[tactic(auto, unfolding(crate::specs::Refusals::capacity_of))]
 fn capacity_of(count: usize, size: usize) -> usize
     ensures { result ≡ capacity_of count size }
 {
     if count == 0 {
         return 0;
     }
-    let share = size / count;
-    if share < MOST_SAMPLES {
-        share
-    } else {
-        MOST_SAMPLES
-    }
+    (size / count).min(MOST_SAMPLES)
 }
 
 // Where channel j's part of the memory begins; the second's for every j above it.
@@ -219,7 +204,7 @@ impl Sampler {
                     count: channel_count,
                     capacity,
                 },
-                number: 0,
+                done: Ok(()),
             }
         } else {
             Answer {
@@ -228,124 +213,109 @@ impl Sampler {
                     count: 0,
                     capacity: 0,
                 },
-                number: 9,
+                done: Err(Refusal::Broken),
             }
         }
+    }
+
+    // The first n channels: never more than the array has.
+    #[tactic(auto, using(walks::proofs::Lists::Loops::take_most))]
+    pub fn first(&self, n: usize) -> &[Channel]
+        ensures { result.now ≡ take n self.now.channels }
+    {
+        &self.channels[..n.min(2)]
+    }
+
+    // The channels in use.
+    pub fn present(&self) -> &[Channel]
+        ensures { result.now ≡ present self.now }
+    {
+        self.first(self.count)
     }
 
     fn good_channels(self) -> bool
-        ensures { result ≡ every (good_channel self.capacity) (present self) }
+        ensures { result ≡ list_all (good_channel self.capacity) (present self) }
     {
-        let capacity = self.capacity;
-        let n = places(self.count);
-        let mut j = 0;
-        while j < n {
-            let c = self.channels[j];
-            if !c.good(capacity) {
-                return false;
-            }
-            j += 1;
-        }
-        true
+        self.present().iter().all(|c| c.good(self.capacity))
     }
 
     // Whether the record is not broken (row 9).
+    #[tactic(auto, unfolding(crate::specs::Refusals::good_sampler))]
     pub fn good(self) -> bool
         ensures { result ≡ good_sampler self }
     {
-        if good_sizes(self.count, self.capacity) {
-            self.good_channels()
-        } else {
-            false
-        }
+        good_sizes(self.count, self.capacity) && self.good_channels()
+    }
+
+    #[tactic(auto, unfolding(crate::specs::Refusals::against_any))]
+    fn blocked(self, ask: Ask) -> bool
+        ensures { result ≡ (against_any ask self).blocked }
+    {
+        self.present()
+            .iter()
+            .any(|c| c.against(ask, self.capacity).blocked)
+    }
+
+    #[tactic(auto, unfolding(crate::specs::Refusals::against_any))]
+    fn short(self, ask: Ask) -> bool
+        ensures { result ≡ (against_any ask self).short }
+    {
+        self.present()
+            .iter()
+            .any(|c| c.against(ask, self.capacity).short)
     }
 
     // What the channels in use have against what a change asks.
+    #[tactic(auto, unfolding(crate::specs::Refusals::against_any))]
     pub fn against(self, ask: Ask) -> Against
         ensures { result ≡ against_any ask self }
     {
-        let capacity = self.capacity;
-        let n = places(self.count);
-        let mut blocked = false;
-        let mut short = false;
-        let mut j = 0;
-        while j < n {
-            let c = self.channels[j];
-            let a = c.against(ask, capacity);
-            blocked = blocked | a.blocked;
-            short = short | a.short;
-            j += 1;
+        Against {
+            blocked: self.blocked(ask),
+            short: self.short(ask),
         }
-        Against { blocked, short }
     }
 
     // Whether one of the channels in use records.
-    pub fn any_recording(self) -> bool
-        ensures { result ≡ any_recording self }
+    pub fn any_recording(&self) -> bool
+        ensures { result ≡ any_recording self.now }
     {
-        let n = places(self.count);
-        let mut j = 0;
-        while j < n {
-            let c = self.channels[j];
-            let head = c.head;
-            if head.is_recording() {
-                return true;
-            }
-            j += 1;
-        }
-        false
+        self.present().iter().any(|c| c.head.is_recording())
     }
 
     // Whether the clock of one of the first n channels stands at its end.
-    fn any_at_end(self, n: usize) -> bool
-        ensures { result ≡ any at_end (take n self.channels) }
+    pub fn any_at_end(&self, n: usize) -> bool
+        ensures { result ≡ list_any at_end (take n self.now.channels) }
     {
-        let m = places(n);
-        let mut j = 0;
-        while j < m {
-            if channel::LAST_TIME <= self.channels[j].head.now {
-                return true;
-            }
-            j += 1;
-        }
-        false
+        self.first(n)
+            .iter()
+            .any(|c| channel::LAST_TIME <= c.head.now)
     }
 
     // The largest clock of the channels in use.
-    fn latest(self) -> usize
-        ensures { result ≡ latest_of (present self) }
+    #[tactic(auto, unfolding(crate::specs::Refusals::latest_of))]
+    fn latest(&self) -> usize
+        ensures { result ≡ latest_of (present self.now) }
     {
-        let n = places(self.count);
-        let mut time = 0;
-        let mut j = 0;
-        while j < n {
-            time = larger(time, self.channels[j].head.now);
-            j += 1;
-        }
-        time
+        self.present()
+            .iter()
+            .fold(0, |time, c| time.max(c.head.now))
     }
 
     // The frames that are left until a clock stands at its end.
-    fn room(self) -> usize
-        ensures { result ≡ frames_left self }
+    #[tactic(auto, unfolding(crate::specs::Refusals::frames_left))]
+    pub fn room(&self) -> usize
+        ensures { result ≡ frames_left self.now }
     {
-        let latest = self.latest();
-        if latest < channel::LAST_TIME {
-            channel::LAST_TIME - latest
-        } else {
-            0
-        }
+        channel::LAST_TIME.saturating_sub(self.latest())
     }
 
     fn each(mut self, change: Change) -> Sampler
         ensures { result ≡ each_of change self }
     {
-        let n = places(self.count);
-        let mut j = 0;
-        while j < n {
-            let c = self.channels[j];
-            self.channels[j] = c.changed(change);
-            j += 1;
+        let n = self.count.min(2);
+        for j in 0..n {
+            self.channels[j] = self.channels[j].changed(change);
         }
         self
     }
@@ -355,21 +325,19 @@ impl Sampler {
     pub fn loaded(mut self, samples: usize) -> Sampler
         ensures { result ≡ each_of (Head (Load samples)) self }
     {
-        let n = places(self.count);
-        let mut j = 0;
-        while j < n {
-            let c = self.channels[j];
-            self.channels[j] = c.head_changed(HeadChange::Load(samples));
-            j += 1;
+        let n = self.count.min(2);
+        for j in 0..n {
+            self.channels[j] = self.channels[j].head_changed(HeadChange::Load(samples));
         }
         self
     }
 
-    fn gather_number(self, size: usize) -> u8
-        ensures { result ≡ gather_number self size }
+    #[tactic(auto, unfolding(crate::specs::Refusals::gather_judged))]
+    fn gather_judged(self, size: usize) -> Result<(), Refusal>
+        ensures { result ≡ gather_judged self size }
     {
-        let recording = first_of(self.any_recording(), 21, 0);
-        first_of(!self.good_with(size), 9, recording)
+        Refusal::Broken.when(!self.good_with(size))?;
+        Refusal::PhraseRecording.when(self.any_recording())
     }
 
     // Moves the phrases of each channel down, so that all free room of its part is behind them.
@@ -377,15 +345,13 @@ impl Sampler {
         ensures value { result ≡ gather_of self memory.old }
         ensures memory_after { memory.new ≡ gather_memory self memory.old }
     {
-        let number = self.gather_number(memory.len());
-        if number != 0 {
-            return Answer {
-                sampler: self,
-                number,
-            };
-        }
-        let sampler = self.gathered(memory);
-        Answer { sampler, number: 0 }
+        let done = self.gather_judged(memory.len());
+        let sampler = if done.is_ok() {
+            self.gathered(memory)
+        } else {
+            self
+        };
+        Answer { sampler, done }
     }
 
     // Each channel in use gathered on its part of the memory.
@@ -396,32 +362,25 @@ impl Sampler {
     {
         let capacity = self.capacity;
         let n = self.count;
-        let mut j = 0;
-        while j < n {
-            let c = self.channels[j];
+        for j in 0..n {
             let start = part_start(j, capacity);
             let end = start + capacity;
-            self.channels[j] = c.gathered(&mut memory[start..end]);
-            j += 1;
+            self.channels[j] = self.channels[j].gathered(&mut memory[start..end]);
         }
         self
     }
 
-    // The change where the number is 0.
-    fn answer(self, number: u8, change: Change) -> Answer
-        ensures { result ≡ answer_of number change self }
+    // The change where it isn't refused.
+    #[tactic(auto, unfolding(crate::specs::Samplers::answer_of))]
+    fn answer(self, done: Result<(), Refusal>, change: Change) -> Answer
+        ensures { result ≡ answer_of done change self }
     {
-        if number == 0 {
-            Answer {
-                sampler: self.each(change),
-                number: 0,
-            }
+        let sampler = if done.is_ok() {
+            self.each(change)
         } else {
-            Answer {
-                sampler: self,
-                number,
-            }
-        }
+            self
+        };
+        Answer { sampler, done }
     }
 
     // What the rows of a change ask of the record.
@@ -436,36 +395,27 @@ impl Sampler {
     }
 
     // Whether the record is good, and memory of that size long enough for it.
+    #[tactic(auto, unfolding(crate::specs::Refusals::good_with))]
     pub fn good_with(self, size: usize) -> bool
         ensures { result ≡ good_with self size }
     {
-        if self.good() {
-            enough(self.count, self.capacity, size)
-        } else {
-            false
-        }
+        self.good() && enough(self.count, self.capacity, size)
     }
 
     fn at_end(self, channel: usize) -> bool
         ensures { result ≡ at_end (channel_at self channel) }
     {
-        if channel < 2 {
-            channel::LAST_TIME <= self.channels[channel].head.now
-        } else {
-            false
-        }
+        channel < 2 && channel::LAST_TIME <= self.channels[channel].head.now
     }
 
-    fn sample_number(self, channel: usize, params: Params, size: usize) -> u8
-        ensures { result ≡ sample_number self channel params size }
+    #[tactic(auto, unfolding(crate::specs::Refusals::sample_judged))]
+    fn sample_judged(self, channel: usize, params: Params, size: usize) -> Result<(), Refusal>
+        ensures { result ≡ sample_judged self channel params size }
     {
-        let end = first_of(self.at_end(channel), 6, 0);
-        let beyond = first_of(params.beyond_limits(), 4, end);
-        first_of(
-            !self.good_with(size),
-            9,
-            first_of(!(channel < self.count), 1, beyond),
-        )
+        Refusal::Broken.when(!self.good_with(size))?;
+        Refusal::NoChannel.when(!(channel < self.count))?;
+        Refusal::BeyondLimits.when(params.beyond_limits())?;
+        Refusal::ClockEnd.when(self.at_end(channel))
     }
 
     fn frame_asked(self, entries: usize, size: usize) -> FrameAsked
@@ -494,8 +444,7 @@ impl Sampler {
     pub fn changed(self, change: Change) -> Answer
         ensures { result ≡ change_of self change }
     {
-        let number = change_rows(self.asked(change), change);
-        self.answer(number, change)
+        self.answer(change_rows(self.asked(change), change), change)
     }
 
     pub fn start_playing(self, position: f32, note: Note, velocity: f32, params: Params) -> Answer
@@ -568,13 +517,10 @@ impl Sampler {
         ensures moved_bound { result.moved ≤ 32 }
         ensures memory_after { memory.new ≡ memory_at self j input memory.old }
     {
-        let c = self.channels[j];
-        let capacity = self.capacity;
-        let start = part_start(j, capacity);
-        let end = start + capacity;
-        let played = c.with_sample(params, input, &mut memory[start..end]);
-        let channel = played.channel;
-        self.channels[j] = channel;
+        let start = part_start(j, self.capacity);
+        let end = start + self.capacity;
+        let played = self.channels[j].with_sample(params, input, &mut memory[start..end]);
+        self.channels[j] = played.channel;
         Stepped {
             sampler: self,
             output: params.volume * played.output,
@@ -592,21 +538,20 @@ impl Sampler {
         ensures value { result ≡ process_sample_of self channel input params memory.old }
         ensures memory_after { memory.new ≡ sample_memory self channel input params memory.old }
     {
-        let number = self.sample_number(channel, params, memory.len());
-        if number != 0 {
+        let done = self.sample_judged(channel, params, memory.len());
+        if !done.is_ok() {
             return SampleAnswer {
                 sampler: self,
                 output: 0.0,
-                number,
+                done,
                 moved: 0,
             };
         }
         let stepped = self.step(channel, params, input, memory);
-        let sampler = stepped.sampler;
         SampleAnswer {
-            sampler,
+            sampler: stepped.sampler,
             output: stepped.output,
-            number: 0,
+            done,
             moved: stepped.moved,
         }
     }
@@ -621,16 +566,12 @@ impl Sampler {
             ≡ entries_moved params (length frame.old) 0
             (framed self frame.old memory.old) }
     {
-        let n = frame.len();
         let mut moved = 0;
-        let mut j = 0;
-        while j < n {
+        for j in 0..frame.len() {
             let stepped = self.step(j, params, frame[j], memory);
-            let sampler = stepped.sampler;
-            self = sampler;
+            self = stepped.sampler;
             frame[j] = stepped.output;
             moved += stepped.moved;
-            j += 1;
         }
         Entered {
             sampler: self,
@@ -639,26 +580,25 @@ impl Sampler {
     }
 
     pub fn process_frame(self, frame: &mut [f32], params: Params, memory: &mut [u32]) -> FrameAnswer
-        ensures number_value { result.number
-            ≡ frame_number self (length frame.old) params (length memory.old) }
+        ensures done_value { result.done
+            ≡ frame_judged self (length frame.old) params (length memory.old) }
         ensures frames { Frames (framed_of self frame.old params memory.old) result.sampler
             frame.new memory.new }
         ensures moved_value { result.moved ≡ frame_moved self frame.old params memory.old }
     {
         let asked = self.frame_asked(frame.len(), memory.len());
-        let number = frame_rows(asked, frame.len(), params);
-        if number != 0 {
+        let done = frame_rows(asked, frame.len(), params);
+        if !done.is_ok() {
             return FrameAnswer {
                 sampler: self,
-                number,
+                done,
                 moved: 0,
             };
         }
         let entered = self.entries(frame, params, memory);
-        let sampler = entered.sampler;
         FrameAnswer {
-            sampler,
-            number: 0,
+            sampler: entered.sampler,
+            done,
             moved: entered.moved,
         }
     }
@@ -671,14 +611,11 @@ impl Sampler {
     {
         let count = self.count;
         let mut a = 0;
-        let mut i = 0;
-        while i < k {
+        for _ in 0..k {
             let b = a + count;
             let entered = self.entries(&mut run[a..b], params, memory);
-            let sampler = entered.sampler;
-            self = sampler;
+            self = entered.sampler;
             a = b;
-            i += 1;
         }
         self
     }
@@ -695,53 +632,59 @@ impl Sampler {
     }
 }
 
-// A row of the table: its number where its test holds, else what the rows after it give.
-pub fn first_of(test: bool, number: u8, rest: u8) -> u8
-    ensures { result ≡ row test number rest }
-{
-    if test { number } else { rest }
-}
-
-fn start_rows(asked: Asked, position: f32, note: Note, params: Params) -> u8
+#[tactic(auto, unfolding(crate::specs::Refusals::start_rows))]
+fn start_rows(asked: Asked, position: f32, note: Note, params: Params) -> Result<(), Refusal>
     ensures { result ≡ start_rows asked position note params }
 {
-    let against = asked.against;
-    let full = first_of(against.blocked, 5, 0);
-    let beyond = first_of(params.beyond_limits(), 4, full);
-    let position = first_of(!in_range(position), 3, beyond);
-    first_of(!asked.good, 9, first_of(note.channel > 15, 2, position))
+    Refusal::Broken.when(!asked.good)?;
+    Refusal::BadNote.when(note.channel > 15)?;
+    Refusal::BadPosition.when(!in_range(position))?;
+    Refusal::BeyondLimits.when(params.beyond_limits())?;
+    Refusal::Full.when(asked.against.blocked)
 }
 
-fn stop_rows(asked: Asked, note: Note, params: Params) -> u8
+#[tactic(auto, unfolding(crate::specs::Refusals::stop_rows))]
+fn stop_rows(asked: Asked, note: Note, params: Params) -> Result<(), Refusal>
     ensures { result ≡ stop_rows asked note params }
 {
-    let beyond = first_of(params.beyond_limits(), 4, 0);
-    first_of(!asked.good, 9, first_of(note.channel > 15, 2, beyond))
+    Refusal::Broken.when(!asked.good)?;
+    Refusal::BadNote.when(note.channel > 15)?;
+    Refusal::BeyondLimits.when(params.beyond_limits())
 }
 
-fn speed_rows(asked: Asked, note: Note) -> u8
+#[tactic(auto, unfolding(crate::specs::Refusals::speed_rows))]
+fn speed_rows(asked: Asked, note: Note) -> Result<(), Refusal>
     ensures { result ≡ speed_rows asked note }
 {
-    first_of(!asked.good, 9, first_of(note.channel > 15, 2, 0))
+    Refusal::Broken.when(!asked.good)?;
+    Refusal::BadNote.when(note.channel > 15)
 }
 
 // The rows of a change of the heads behind row 9.
-fn head_rows(asked: Asked, change: HeadChange) -> u8
+fn head_rows(asked: Asked, change: HeadChange) -> Result<(), Refusal>
     ensures { result ≡ head_rows asked change }
 {
-    let against = asked.against;
     match change {
-        HeadChange::StartRecording => 0,
-        HeadChange::StopRecording => 0,
-        HeadChange::Interpolate(_) => 0,
-        HeadChange::Load(_) => first_of(against.blocked, 15, first_of(against.short, 18, 0)),
-        HeadChange::Choose(k) => first_of(8 <= k, 19, first_of(against.blocked, 21, 0)),
-        HeadChange::Delete(k) => first_of(8 <= k, 19, first_of(against.blocked, 20, 0)),
+        HeadChange::StartRecording => Ok(()),
+        HeadChange::StopRecording => Ok(()),
+        HeadChange::Interpolate(_) => Ok(()),
+        HeadChange::Load(_) => {
+            Refusal::Recording.when(asked.against.blocked)?;
+            Refusal::NoRoom.when(asked.against.short)
+        }
+        HeadChange::Choose(k) => {
+            Refusal::NoPhrase.when(8 <= k)?;
+            Refusal::PhraseRecording.when(asked.against.blocked)
+        }
+        HeadChange::Delete(k) => {
+            Refusal::NoPhrase.when(8 <= k)?;
+            Refusal::PhraseInUse.when(asked.against.blocked)
+        }
     }
 }
 
-// The number of a change, from what its rows ask of a record.
-pub fn change_rows(asked: Asked, change: Change) -> u8
+// Whether a change is refused, from what its rows ask of a record.
+pub fn change_rows(asked: Asked, change: Change) -> Result<(), Refusal>
     ensures { result ≡ change_rows asked change }
 {
     match change {
@@ -753,18 +696,22 @@ pub fn change_rows(asked: Asked, change: Change) -> u8
         } => start_rows(asked, position, note, params),
         Change::Stop { params, note } => stop_rows(asked, note, params),
         Change::Speed { note, .. } => speed_rows(asked, note),
-        Change::Head(change) => first_of(!asked.good, 9, head_rows(asked, change)),
-        Change::Reset => first_of(!asked.good, 9, 0),
+        Change::Head(change) => {
+            Refusal::Broken.when(!asked.good)?;
+            head_rows(asked, change)
+        }
+        Change::Reset => Refusal::Broken.when(!asked.good),
     }
 }
 
-// The number of a frame.
-pub fn frame_rows(asked: FrameAsked, entries: usize, params: Params) -> u8
+// Whether a frame is refused.
+pub fn frame_rows(asked: FrameAsked, entries: usize, params: Params) -> Result<(), Refusal>
     ensures { result ≡ frame_rows asked entries params }
 {
-    let end = first_of(asked.ended, 6, 0);
-    let beyond = first_of(params.beyond_limits(), 4, end);
-    first_of(!asked.good, 9, first_of(asked.count < entries, 1, beyond))
+    Refusal::Broken.when(!asked.good)?;
+    Refusal::NoChannel.when(asked.count < entries)?;
+    Refusal::BeyondLimits.when(params.beyond_limits())?;
+    Refusal::ClockEnd.when(asked.ended)
 }
 
 // How many whole frames so many entries are: none for a broken record that says that it has no channels.
@@ -787,28 +734,26 @@ fn left_over(entries: usize, count: usize) -> usize
     entries % count
 }
 
-fn run_rows(asked: RunAsked, entries: usize, params: Params) -> u8
+fn run_rows(asked: RunAsked, entries: usize, params: Params) -> Result<(), Refusal>
     ensures { result ≡ run_rows asked entries params }
 {
-    let end = first_of(asked.room < frames_of(entries, asked.count), 6, 0);
-    let beyond = first_of(params.beyond_limits(), 4, end);
-    let whole = first_of(left_over(entries, asked.count) != 0, 10, beyond);
-    first_of(!asked.good, 9, whole)
+    Refusal::Broken.when(!asked.good)?;
+    Refusal::BadRun.when(left_over(entries, asked.count) != 0)?;
+    Refusal::BeyondLimits.when(params.beyond_limits())?;
+    Refusal::ClockEnd.when(asked.room < frames_of(entries, asked.count))
 }
 
 // What a run of frames answers.
+#[tactic(auto, unfolding(crate::specs::Refusals::run_done))]
 pub fn run_done(asked: RunAsked, entries: usize, params: Params) -> Ran
     ensures { result ≡ run_done asked entries params }
 {
-    let number = run_rows(asked, entries, params);
-    if (number == 0) | (number == 6) {
-        Ran {
-            frames: smaller(frames_of(entries, asked.count), asked.room),
-            number,
-        }
-    } else {
-        Ran { frames: 0, number }
-    }
+    let done = run_rows(asked, entries, params);
+    let frames = match done {
+        Ok(()) | Err(Refusal::ClockEnd) => frames_of(entries, asked.count).min(asked.room),
+        Err(_) => 0,
+    };
+    Ran { frames, done }
 }
 
 // From 0 to 1, which NaN is not.

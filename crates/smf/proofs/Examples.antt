@@ -1,4 +1,5 @@
 -- Files at each edge of the rules, computed: each number where it is given, and its neighbour that is accepted. Assumes nothing.
+use Rattle.std.specs.Prelude.{Result, Ok, Err}
 use mathlib.Core.Path.{◌≡◌, refl}
 use mathlib.Core.Bool.{true, false}
 use mathlib.Core.List.{List, [], ◌∷◌, ◌++◌, map}
@@ -16,8 +17,8 @@ use Rattle.smf.specs.Times.{frame_at}
 use Rattle.smf.specs.Cues.{event_entries, tempo_after, too_late, song_from, song_of, count_closed, numbers_of, counted_judged, list_of, cues_number, cue_of}
 use Rattle.smf.specs.declared.faults.Reason.{Reason}
 use Rattle.smf.specs.declared.faults.Reason.TheVariants.{Missing, NoHeader, ShortHeader, OtherFormat, OtherTrackCount, SmpteDivision, NoDivision, SecondHeader, SecondTrack, NoTrack, NoEndOfTrack, BehindEndOfTrack, LongQuantity, NoRunningStatus, SystemStatus, NoDataByte, NoMetaType, ShortTempo, LateFrame}
-use Rattle.smf.specs.declared.Counted.{Counted}
-use Rattle.smf.specs.declared.Counted.TheVariants.{Done, BadRate, Faulty, Short}
+use Rattle.smf.specs.declared.SongRefusal.{SongRefusal}
+use Rattle.smf.specs.declared.SongRefusal.TheVariants.{BadRate, Faulty, Short}
 
 -- whatever an answer computes by
 unfoldable pub computing : Unit {0}
@@ -41,27 +42,27 @@ none = track "00 FF2F00"
 
 record Row : Type 0 where
   file : List ℕ
-  answer : Counted
+  answer : Result ℕ SongRefusal
 
-row : List ℕ → Counted → Row
+row : List ℕ → Result ℕ SongRefusal → Row
 row f a = record { file = f; answer = a }
 
 -- at 48,000 frames a second, with room for four starts and stops
 abbrev holds : List Row → Type 0
 holds rows = map (λ (r : Row). counted_judged r.file 48000 8) rows ≡ map (λ (r : Row). r.answer) rows
 
-abbrev fault : Reason → ℕ → Counted
-fault why at = Faulty (fault_at why at)
+abbrev fault : Reason → ℕ → Result ℕ SongRefusal
+fault why at = Err (Faulty (fault_at why at))
 
 -- ---- the header
 headers : List Row
 headers =
-    row (header ++ none) (Done 0)
+    row (header ++ none) (Ok 0)
     ∷ row [] (fault Missing 0)
     ∷ row (from_hex "4D5468") (fault Missing 3)
     ∷ row (from_hex "4D546865 00000006 0000 0001 0060" ++ none) (fault NoHeader 3)
     ∷ row (from_hex "4D546864 00000005 0000 0001 00" ++ none) (fault ShortHeader 7)
-    ∷ row (from_hex "4D546864 00000007 0000 0001 0060 FF" ++ none) (Done 0)
+    ∷ row (from_hex "4D546864 00000007 0000 0001 0060 FF" ++ none) (Ok 0)
     ∷ row (from_hex "4D546864 00000006 0001 0001 0060" ++ none) (fault OtherFormat 9)
     ∷ row (from_hex "4D546864 00000006 0003 0001 0060" ++ none) (fault OtherFormat 9)
     ∷ row (from_hex "4D546864 00000006 0001") (fault OtherFormat 9)
@@ -70,9 +71,9 @@ headers =
     ∷ row (from_hex "4D546864 00000006 0000 0002 0060" ++ none) (fault OtherTrackCount 11)
     ∷ row (from_hex "4D546864 00000006 0000 0001 8000" ++ none) (fault SmpteDivision 13)
     ∷ row (from_hex "4D546864 00000006 0000 0001 80") (fault Missing 13)
-    ∷ row (from_hex "4D546864 00000006 0000 0001 7FFF" ++ none) (Done 0)
+    ∷ row (from_hex "4D546864 00000006 0000 0001 7FFF" ++ none) (Ok 0)
     ∷ row (from_hex "4D546864 00000006 0000 0001 0000" ++ none) (fault NoDivision 13)
-    ∷ row (from_hex "4D546864 00000006 0000 0001 0001" ++ none) (Done 0)
+    ∷ row (from_hex "4D546864 00000006 0000 0001 0001" ++ none) (Ok 0)
     ∷ row (from_hex "4D546864 000000FF 0000 0001 0060" ++ none) (fault Missing 26)
     ∷ []
 
@@ -99,14 +100,14 @@ pairs_of_faults_hold = refl
 -- ---- chunks: others are skipped, before the track and behind it; no track, a second one or a second header; one past the end; bytes left over
 chunks : List Row
 chunks =
-    row (header ++ from_hex "58585858 00000002 0102" ++ none ++ from_hex "59595959 00000000") (Done 0)
+    row (header ++ from_hex "58585858 00000002 0102" ++ none ++ from_hex "59595959 00000000") (Ok 0)
     ∷ row header (fault NoTrack 14)
     ∷ row (header ++ from_hex "58585858 00000000") (fault NoTrack 22)
     ∷ row (header ++ none ++ none) (fault SecondTrack 29)
     ∷ row (header ++ none ++ from_hex "4D546864 00000000") (fault SecondHeader 29)
     ∷ row (header ++ from_hex "4D546864 00000000" ++ none) (fault SecondHeader 17)
     ∷ row (header ++ none ++ from_hex "58585858 00000001") (fault Missing 34)
-    ∷ row (header ++ none ++ from_hex "58585858 00000001 00") (Done 0)
+    ∷ row (header ++ none ++ from_hex "58585858 00000001 00") (Ok 0)
     ∷ row (header ++ none ++ from_hex "00") (fault Missing 27)
     ∷ row (header ++ none ++ from_hex "58585858 000000") (fault Missing 33)
     ∷ row (header ++ from_hex "4D54726B 000000") (fault Missing 21)
@@ -119,7 +120,7 @@ chunks_hold = refl
 -- ---- the end of the track: End of Track of any length; missing; a byte behind it; an event, or the chunk, past the end
 ends : List Row
 ends =
-    row (song "00 FF2F02 0102") (Done 0)
+    row (song "00 FF2F02 0102") (Ok 0)
     ∷ row (song "") (fault NoEndOfTrack 22)
     ∷ row (song "00 C001") (fault NoEndOfTrack 25)
     ∷ row (song "00 FF2F00 00") (fault BehindEndOfTrack 26)
@@ -135,10 +136,10 @@ ends_hold = refl
 -- ---- times: four bytes at most; padding is allowed
 times : List Row
 times =
-    row (song "FFFFFF7F C001 00 FF2F00") (Done 0)
+    row (song "FFFFFF7F C001 00 FF2F00") (Ok 0)
     ∷ row (song "FFFFFF80 00 C001 00 FF2F00") (fault LongQuantity 25)
     ∷ row (song "FFFFFF") (fault Missing 25)
-    ∷ row (song "8000 C001 00 FF2F00") (Done 0)
+    ∷ row (song "8000 C001 00 FF2F00") (Ok 0)
     ∷ []
 
 times_hold : holds times
@@ -148,24 +149,24 @@ times_hold = refl
 -- ---- status: running status, which a meta event and a sysex event end; none at first; F1 to F6 and F8 to FE; data bytes
 statuses : List Row
 statuses =
-    row (song "00 903C40 01 3C00 00 FF2F00") (Done 2)
+    row (song "00 903C40 01 3C00 00 FF2F00") (Ok 2)
     ∷ row (song "00 3C40 00 FF2F00") (fault NoRunningStatus 23)
     ∷ row (song "00 903C40 00 FF0100 01 3C00 00 FF2F00") (fault NoRunningStatus 31)
-    ∷ row (song "00 903C40 00 FF0100 01 903C00 00 FF2F00") (Done 2)
+    ∷ row (song "00 903C40 00 FF0100 01 903C00 00 FF2F00") (Ok 2)
     ∷ row (song "00 903C40 00 F00101 01 3C00 00 FF2F00") (fault NoRunningStatus 31)
     ∷ row (song "00 903C40 00 F70101 01 3C00 00 FF2F00") (fault NoRunningStatus 31)
-    ∷ row (song "00 F002FFF7 00 F703010203 00 FF2F00") (Done 0)
+    ∷ row (song "00 F002FFF7 00 F703010203 00 FF2F00") (Ok 0)
     ∷ row (song "00 F10000 FF2F00") (fault SystemStatus 23)
     ∷ row (song "00 F60000 FF2F00") (fault SystemStatus 23)
     ∷ row (song "00 F80000 FF2F00") (fault SystemStatus 23)
     ∷ row (song "00 FE0000 FF2F00") (fault SystemStatus 23)
     ∷ row (song "00 908040 00 FF2F00") (fault NoDataByte 24)
     ∷ row (song "00 903C80 00 FF2F00") (fault NoDataByte 25)
-    ∷ row (song "00 903C7F 00 FF2F00") (Done 1)
+    ∷ row (song "00 903C7F 00 FF2F00") (Ok 1)
     ∷ row (song "00 903C") (fault Missing 25)
-    ∷ row (song "00 C07F 00 D07F 00 A07F7F 00 B07F7F 00 E07F7F 00 FF2F00") (Done 0)
-    ∷ row (song "00 CF7F 00 DF7F 00 AF7F7F 00 BF7F7F 00 EF7F7F 00 FF2F00") (Done 0)
-    ∷ row (song "00 CF7F 00 7F 00 DF7F 00 7F 00 FF2F00") (Done 0)
+    ∷ row (song "00 C07F 00 D07F 00 A07F7F 00 B07F7F 00 E07F7F 00 FF2F00") (Ok 0)
+    ∷ row (song "00 CF7F 00 DF7F 00 AF7F7F 00 BF7F7F 00 EF7F7F 00 FF2F00") (Ok 0)
+    ∷ row (song "00 CF7F 00 7F 00 DF7F 00 7F 00 FF2F00") (Ok 0)
     ∷ []
 
 statuses_hold : holds statuses
@@ -176,10 +177,10 @@ statuses_hold = refl
 metas : List Row
 metas =
     row (song "00 FF8000 00 FF2F00") (fault NoMetaType 24)
-    ∷ row (song "00 FF7F00 00 FF2F00") (Done 0)
+    ∷ row (song "00 FF7F00 00 FF2F00") (Ok 0)
     ∷ row (song "00 FF51020000 00 FF2F00") (fault ShortTempo 25)
-    ∷ row (song "00 FF5103000000 00 FF2F00") (Done 0)
-    ∷ row (song "00 FF510400000099 00 FF2F00") (Done 0)
+    ∷ row (song "00 FF5103000000 00 FF2F00") (Ok 0)
+    ∷ row (song "00 FF510400000099 00 FF2F00") (Ok 0)
     ∷ row (song "00 FF510300") (fault Missing 27)
     ∷ row (song "00 FF7F0100") (fault NoEndOfTrack 27)
     ∷ row (song "00 FF7F0200") (fault Missing 27)
@@ -196,15 +197,15 @@ metas_hold = refl
 abbrev two : List ℕ
 two = song "00 903C40 60 3C00 00 FF2F00"
 
-rates : counted_judged [] 0 0 ∷ counted_judged [] 192001 0 ∷ counted_judged two 1 4 ∷ counted_judged two 192000 4 ∷ [] ≡ BadRate ∷ BadRate ∷ Done 2 ∷ Done 2 ∷ []
+rates : counted_judged [] 0 0 ∷ counted_judged [] 192001 0 ∷ counted_judged two 1 4 ∷ counted_judged two 192000 4 ∷ [] ≡ (Err BadRate) ∷ (Err BadRate) ∷ Ok 2 ∷ Ok 2 ∷ []
 unfolding computing
 rates = refl
 
-rooms : counted_judged (two ++ (0 ∷ [])) 48000 3 ∷ counted_judged two 48000 3 ∷ counted_judged two 48000 4 ∷ [] ≡ fault Missing 34 ∷ Short 2 ∷ Done 2 ∷ []
+rooms : counted_judged (two ++ (0 ∷ [])) 48000 3 ∷ counted_judged two 48000 3 ∷ counted_judged two 48000 4 ∷ [] ≡ fault Missing 34 ∷ Err (Short 2) ∷ Ok 2 ∷ []
 unfolding computing
 rooms = refl
 
-numbers : map cues_number (BadRate ∷ Short 2 ∷ Done 2 ∷ []) ≡ 22 ∷ 8 ∷ 0 ∷ []
+numbers : map cues_number ((Err BadRate) ∷ Err (Short 2) ∷ Ok 2 ∷ []) ≡ 22 ∷ 8 ∷ 0 ∷ []
 unfolding computing
 numbers = refl
 
@@ -267,7 +268,7 @@ past_last : counted_judged (long "00 FF5103800000 C0808000 C000 C0808000 FF51030
 unfolding computing
 past_last = refl
 
-others_later : counted_judged (long "00 FF5103800000 C0808000 C000 C0808000 FF5103000008 01 C000 00 FF2F00") 125000 2 ≡ Done 0
+others_later : counted_judged (long "00 FF5103800000 C0808000 C000 C0808000 FF5103000008 01 C000 00 FF2F00") 125000 2 ≡ Ok 0
 unfolding computing
 others_later = refl
 

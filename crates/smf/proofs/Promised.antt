@@ -1,4 +1,5 @@
 -- A song's list is what the request says: `specs/Promised.antt`. Assumes nothing.
+use Rattle.std.specs.Prelude.{Result, Ok, Err}
 use mathlib.Core.Path.{◌≡◌, refl, sym, ap, ◌∙◌}
 use mathlib.Core.Bool.{Bool, true, false, cond, not}
 use mathlib.Core.List.{List, [], ◌∷◌, ◌++◌}
@@ -23,26 +24,23 @@ use Rattle.smf.specs.declared.faults.Reason.{Reason}
 use Rattle.smf.specs.declared.faults.Reason.TheVariants.{Missing, NoHeader, ShortHeader, OtherFormat, OtherTrackCount, SmpteDivision, NoDivision, SecondHeader, SecondTrack, NoTrack, NoEndOfTrack, BehindEndOfTrack, LongQuantity, NoRunningStatus, SystemStatus, NoDataByte, NoMetaType, ShortTempo, LateFrame}
 use Rattle.smf.specs.declared.events.Event.{Event}
 use Rattle.smf.specs.declared.events.Event.TheVariants.{Note, Tempo, Other}
-use Rattle.smf.specs.declared.chunks.Opening.{Opening}
-use Rattle.smf.specs.declared.chunks.Opening.TheVariants as opening
-use Rattle.smf.specs.declared.chunks.Verdict.{Verdict}
-use Rattle.smf.specs.declared.chunks.Verdict.TheVariants.{Good, Broken}
-use Rattle.smf.specs.declared.Counted.{Counted}
-use Rattle.smf.specs.declared.Counted.TheVariants.{Done, BadRate, Faulty, Short}
+use Rattle.smf.specs.declared.SongRefusal.{SongRefusal}
+use Rattle.smf.specs.declared.SongRefusal.TheVariants.{BadRate, Faulty, Short}
+use Rattle.smf.specs.declared.faults.Fault.{Fault}
 
 -- ---- exact: what the song carries along is the sum and the tempo of the events behind it
-exact_from : (rate division : ℕ) (past : List Timed) (es : Events) → (song_from rate division (tempo_behind past) (tempo_sum past) es).verdict ≡ Good
+exact_from : (rate division : ℕ) (past : List Timed) (es : Events) → (song_from rate division (tempo_behind past) (tempo_sum past) es).verdict ≡ Ok tt
     → (song_from rate division (tempo_behind past) (tempo_sum past) es).entries ≡ sounds_behind rate division past (timed_of es)
 unfolding song_from timed_of sounds_behind tempo_sum tempo_behind frame_at
 exact_from rate division past (over v) = λ h. refl
 exact_from rate division past (then delta event next rest) =
     let frame = frame_at rate division (tempo_sum past + delta * tempo_behind past) in
     let t : Timed = record { delta = delta; event = event } in
-    both (λ (s : Song). s.verdict ≡ Good → s.entries ≡ sounds_behind rate division past (t ∷ timed_of rest)) (too_late frame event) _ _
+    both (λ (s : Song). s.verdict ≡ (Ok tt) → s.entries ≡ sounds_behind rate division past (t ∷ timed_of rest)) (too_late frame event) _ _
     (λ _ e. cc)
     (λ _ e. ap (λ (l : List Entry). event_entries frame event ++ l) (exact_from rate division (t ∷ past) rest e))
 
-exact : (rate : ℕ) (f : List ℕ) (division next : ℕ) → header_of f ≡ opening.Is division next → (song_of rate f).verdict ≡ Good
+exact : (rate : ℕ) (f : List ℕ) (division next : ℕ) → header_of f ≡ Ok (division, next) → (song_of rate f).verdict ≡ Ok tt
     → (song_of rate f).entries ≡ sounds_behind rate division [] (timed_of (events_of f next))
 unfolding song_of tempo_sum tempo_behind
 exact rate f division next e h =
@@ -102,9 +100,9 @@ of_song : (P : List Entry → Type 0) (rate : ℕ) (f : List ℕ) → P [] → (
 unfolding song_of
 of_song P rate f none some = go (header_of f)
   where
-    go : (o : Opening) → P (song_in rate f o).entries
-    go (opening.Is division next) = some division (events_of f next)
-    go (opening.Broken why) = none
+    go : (o : Result (ℕ × ℕ) Fault) → P (song_in rate f o).entries
+    go (Ok (division, next)) = some division (events_of f next)
+    go (Err why) = none
 
 in_order : (rate : ℕ) (f : List ℕ) → NeverFall 0 (song_of rate f).entries
 unfolding NeverFall
@@ -151,12 +149,12 @@ song_rows f rate room = record {
 }
 
 -- ---- the list
-held_at : (es : List Entry) (list : List ℕ) (c : Counted) → (cues_number c ≡ 0 → ⊥) → cues_after es list c ≡ list
+held_at : (es : List Entry) (list : List ℕ) (c : Result ℕ SongRefusal) → (cues_number c ≡ 0 → ⊥) → cues_after es list c ≡ list
 unfolding cues_number
-held_at es list (Done n) h = absurd (h refl)
-held_at es list BadRate h = refl
-held_at es list (Faulty why) h = refl
-held_at es list (Short n) h = refl
+held_at es list (Ok n) h = absurd (h refl)
+held_at es list (Err BadRate) h = refl
+held_at es list (Err (Faulty why)) h = refl
+held_at es list (Err (Short n)) h = refl
 
 held : (f : List ℕ) (rate : ℕ) (list : List ℕ) → (cues_number (counted_judged f rate (length list)) ≡ 0 → ⊥) → list_of f rate list ≡ list
 unfolding list_of
@@ -192,33 +190,33 @@ written f rate list = go (good_rate rate) (song_of rate f).verdict
     es : List Entry
     es = (song_of rate f).entries
 
-    fits : (b : Bool) → cues_number (cond b (Done (length es)) (Short (length es))) ≡ 0 → cues_after es list (cond b (Done (length es)) (Short (length es))) ≡ numbers_of es ++ drop (2 * length es) list
+    fits : (b : Bool) → cues_number (cond b (Ok (length es)) (Err (Short (length es)))) ≡ 0 → cues_after es list (cond b (Ok (length es)) (Err (Short (length es)))) ≡ numbers_of es ++ drop (2 * length es) list
     fits true e = refl
     fits false e = absurd (omega arith)
 
-    go : (b : Bool) (v : Verdict) → cues_number (cond b (room_judged (length list) (count_closed v (length es))) BadRate) ≡ 0
-        → cues_after es list (cond b (room_judged (length list) (count_closed v (length es))) BadRate) ≡ numbers_of es ++ drop (2 * length es) list
-    go true Good e = fits (leb (2 * length es) (length list)) e
-    go true (Broken why) e = absurd (no_zero why.reason e)
+    go : (b : Bool) (v : Result (Unit {0}) Fault) → cues_number (cond b (room_judged (length list) (count_closed v (length es))) (Err BadRate)) ≡ 0
+        → cues_after es list (cond b (room_judged (length list) (count_closed v (length es))) (Err BadRate)) ≡ numbers_of es ++ drop (2 * length es) list
+    go true (Ok done) e = fits (leb (2 * length es) (length list)) e
+    go true (Err why) e = absurd (no_zero why.reason e)
     go false v e = absurd (omega arith)
 
-counted : (f : List ℕ) (rate room n : ℕ) → counted_judged f rate room ≡ Done n → ((song_of rate f).verdict ≡ Good) × (length (song_of rate f).entries ≡ n)
+counted : (f : List ℕ) (rate room n : ℕ) → counted_judged f rate room ≡ Ok n → ((song_of rate f).verdict ≡ Ok tt) × (length (song_of rate f).entries ≡ n)
 unfolding counted_judged count_closed cues_number
 counted f rate room n = go (good_rate rate) (song_of rate f).verdict
   where
     size : ℕ
     size = length (song_of rate f).entries
 
-    never : {A : Type 0} {c : Counted} → c ≡ Done n → cues_number c ≢ 0 → A
+    never : {A : Type 0} {c : Result ℕ SongRefusal} → c ≡ Ok n → cues_number c ≢ 0 → A
     never e h = absurd (h (ap cues_number e))
 
-    fits : (b : Bool) → cond b (Done size) (Short size) ≡ Done n → size ≡ n
+    fits : (b : Bool) → cond b (Ok size) (Err (Short size)) ≡ Ok n → size ≡ n
     fits true e = cc
     fits false e = never e (λ z. omega arith)
 
-    go : (b : Bool) (v : Verdict) → cond b (room_judged room (count_closed v size)) BadRate ≡ Done n → (v ≡ Good) × (size ≡ n)
-    go true Good e = (refl, fits (leb (2 * size) room) e)
-    go true (Broken why) e = never e (no_zero why.reason)
+    go : (b : Bool) (v : Result (Unit {0}) Fault) → cond b (room_judged room (count_closed v size)) (Err BadRate) ≡ Ok n → (v ≡ Ok tt) × (size ≡ n)
+    go true (Ok done) e = (refl, fits (leb (2 * size) room) e)
+    go true (Err why) e = never e (no_zero why.reason)
     go false v e = never e (λ z. omega arith)
 
 -- ---- an entry read back

@@ -1,4 +1,5 @@
 -- Variable-length quantities, byte by byte, and that the place behind one lies behind its first byte and not past the end. Assumes nothing.
+use Rattle.std.specs.Prelude.{Result, Ok, Err}
 use mathlib.Core.Path.{◌≡◌, refl}
 use mathlib.Core.Bool.{Bool, true, false, cond}
 use mathlib.Core.List.{List}
@@ -12,21 +13,20 @@ use Rattle.octets.specs.Octets.{byte_at}
 use Rattle.smf.specs.Faults.{fault_at}
 use Rattle.smf.specs.Fields.{digit_at, quantity_from}
 use Rattle.smf.specs.declared.faults.Reason.TheVariants.{Missing, LongQuantity}
-use Rattle.smf.specs.declared.fields.Quantity.{Quantity}
-use Rattle.smf.specs.declared.fields.Quantity.TheVariants.{Is, Broken}
+use Rattle.smf.specs.declared.faults.Fault.{Fault}
 
 module _ (f : List ℕ) (end v at : ℕ) where
-  pub quantity_missing : (n : ℕ) → end ≤ at → quantity_from n f end v at ≡ Broken (fault_at Missing at)
+  pub quantity_missing : (n : ℕ) → end ≤ at → quantity_from n f end v at ≡ Err (fault_at Missing at)
   unfolding quantity_from
   quantity_missing zero h = simp (le-ltb _ _ h)
   quantity_missing (suc n) h = simp (le-ltb _ _ h)
 
-  pub quantity_last : (n : ℕ) → at < end → byte_at f at < 128 → quantity_from n f end v at ≡ Is (v * 128 + byte_at f at) (at + 1)
+  pub quantity_last : (n : ℕ) → at < end → byte_at f at < 128 → quantity_from n f end v at ≡ Ok (v * 128 + byte_at f at, at + 1)
   unfolding quantity_from
   quantity_last zero h k = simp (lt-ltb _ _ h, lt-ltb _ _ k)
   quantity_last (suc n) h k = simp (lt-ltb _ _ h, lt-ltb _ _ k)
 
-  pub quantity_long : at < end → 128 ≤ byte_at f at → quantity_from 0 f end v at ≡ Broken (fault_at LongQuantity at)
+  pub quantity_long : at < end → 128 ≤ byte_at f at → quantity_from 0 f end v at ≡ Err (fault_at LongQuantity at)
   unfolding quantity_from
   quantity_long h k = simp (lt-ltb _ _ h, le-ltb _ _ k)
 
@@ -42,26 +42,26 @@ pub value_small : (used v : ℕ) → used ≤ 3 → v < 128 ^ used → v < 20971
 value_small used v h k = omega (arith, pow-le-pow_right {n = 128} (omega arith) {i = used} {j = 3} h)
 
 -- ---- where it ends
-abbrev pub Within : ℕ → ℕ → Quantity → Type 0
-Within end at (Is v next) = (at < next) × (next ≤ end)
-Within end at (Broken why) = Unit {0}
+abbrev pub Within : ℕ → ℕ → Result (ℕ × ℕ) Fault → Type 0
+Within end at (Ok (v, next)) = (at < next) × (next ≤ end)
+Within end at (Err why) = Unit {0}
 
-later : (end at : ℕ) (q : Quantity) → Within end (at + 1) q → Within end at q
-later end at (Is v next) h = (omega arith, h.1)
-later end at (Broken why) h = tt
+later : (end at : ℕ) (q : Result (ℕ × ℕ) Fault) → Within end (at + 1) q → Within end at q
+later end at (Ok (v, next)) h = (omega arith, h.1)
+later end at (Err why) h = tt
 
-digit_within : (f : List ℕ) (end v at : ℕ) (more : Quantity) → Within end at more → Within end at (digit_at f end v at more)
+digit_within : (f : List ℕ) (end v at : ℕ) (more : Result (ℕ × ℕ) Fault) → Within end at more → Within end at (digit_at f end v at more)
 digit_within f end v at more h = go (ltb at end) refl (ltb (byte_at f at) 128)
   where
     go : (b : Bool) → ltb at end ≡ b → (d : Bool)
-        → Within end at (cond b (cond d (Is (v * 128 + byte_at f at) (at + 1)) more) (Broken (fault_at Missing at)))
+        → Within end at (cond b (cond d (Ok (v * 128 + byte_at f at, at + 1)) more) (Err (fault_at Missing at)))
     go true e true = (omega arith, omega (arith, ltb-true at end e))
     go true e false = h
     go false e d = tt
 
 pub quantity_within : (n : ℕ) (f : List ℕ) (end v at : ℕ) → Within end at (quantity_from n f end v at)
 unfolding quantity_from
-quantity_within zero f end v at = digit_within f end v at (Broken (fault_at LongQuantity at)) tt
+quantity_within zero f end v at = digit_within f end v at (Err (fault_at LongQuantity at)) tt
 quantity_within (suc n) f end v at =
     digit_within f end v at (quantity_from n f end (v * 128 + (byte_at f at - 128)) (at + 1))
     (later end at (quantity_from n f end (v * 128 + (byte_at f at - 128)) (at + 1)) (quantity_within n f end (v * 128 + (byte_at f at - 128)) (at + 1)))

@@ -1,4 +1,5 @@
 -- The chunks of a file, step by step: where a track chunk lies, which divisions a header has, and what may stand behind End of Track. Assumes nothing.
+use Rattle.std.specs.Prelude.{Option, Some, None, Result, Ok, Err}
 use mathlib.Core.Path.{◌≡◌, refl, ap, subst}
 use mathlib.Core.Bool.{not}
 use mathlib.Core.List.{List}
@@ -12,12 +13,8 @@ use Rattle.smf.specs.Fields.{two_at, four_at}
 use Rattle.smf.specs.Files.{header_type, track_type, fields_of, header_of, chunk_at, track_from, track_at, rest_at, behind_track, chunk_events, track_of, events_in, events_of}
 use Rattle.smf.specs.Files.Events.{over}
 use Rattle.smf.specs.declared.faults.Reason.TheVariants.{Missing, BehindEndOfTrack}
-use Rattle.smf.specs.declared.chunks.Opening.{Opening}
-use Rattle.smf.specs.declared.chunks.Opening.TheVariants as opening
-use Rattle.smf.specs.declared.chunks.Found.{Found}
-use Rattle.smf.specs.declared.chunks.Found.TheVariants as found
-use Rattle.smf.specs.declared.chunks.Verdict.TheVariants.{Broken}
 use Rattle.smf.proofs.Inside.{both}
+use Rattle.smf.specs.declared.faults.Fault.{Fault}
 
 -- ---- the search for a track
 
@@ -27,16 +24,16 @@ unfolding track_from
 track_on zero f at h k = absurd (omega arith)
 track_on (suc n) f at h k = refl
 
-pub track_over : (n : ℕ) (f : List ℕ) (at : ℕ) → length f ≤ at → track_from n f at ≡ found.Nothing
+pub track_over : (n : ℕ) (f : List ℕ) (at : ℕ) → length f ≤ at → track_from n f at ≡ Ok None
 unfolding track_from chunk_at
 track_over zero f at h = refl
 track_over (suc n) f at h = simp (le-leb _ _ h)
 
 -- a track that is found has its type in the file
-abbrev pub Placed : List ℕ → Found → Type 0
-Placed f (found.Track place) = place + 4 ≤ length f
-Placed f found.Nothing = Unit {0}
-Placed f (found.Broken why) = Unit {0}
+abbrev pub Placed : List ℕ → Result (Option ℕ) Fault → Type 0
+Placed f (Ok (Some place)) = place + 4 ≤ length f
+Placed f (Ok None) = Unit {0}
+Placed f (Err why) = Unit {0}
 
 placed : (n : ℕ) (f : List ℕ) (at : ℕ) → Placed f (track_from n f at)
 unfolding track_from chunk_at
@@ -49,14 +46,14 @@ placed (suc n) f at =
     (λ _. both (Placed f) (ltb (length f) (at + 8)) _ _ (λ _. tt)
     (λ _. both (Placed f) (ltb (length f) (at + 8 + four_at f (at + 4))) _ _ (λ _. tt) (λ _. placed n f (at + 8 + four_at f (at + 4))))))))
 
-pub track_placed : (f : List ℕ) (at place : ℕ) → track_at f at ≡ found.Track place → place + 4 ≤ length f
+pub track_placed : (f : List ℕ) (at place : ℕ) → track_at f at ≡ Ok (Some place) → place + 4 ≤ length f
 unfolding track_at
 track_placed f at place e = subst (Placed f) e (placed (length f) f at)
 
 -- ---- the header's division is neither 0 nor SMPTE's
-abbrev pub Divided : Opening → Type 0
-Divided (opening.Is division next) = (0 < division) × (division < 2 ^ 15)
-Divided (opening.Broken why) = Unit {0}
+abbrev pub Divided : Result (ℕ × ℕ) Fault → Type 0
+Divided (Ok (division, next)) = (0 < division) × (division < 2 ^ 15)
+Divided (Err why) = Unit {0}
 
 fields_divided : (f : List ℕ) (size : ℕ) → Divided (fields_of f size)
 unfolding fields_of
@@ -79,18 +76,18 @@ header_divides f =
     (λ _. both Divided (ltb (length f) 8) _ _ (λ _. tt)
     (λ _. both Divided (ltb (four_at f 4) 6) _ _ (λ _. tt) (λ _. fields_divided f (four_at f 4)))))
 
-pub header_divided : (f : List ℕ) (division next : ℕ) → header_of f ≡ opening.Is division next → (0 < division) × (division < 2 ^ 15)
+pub header_divided : (f : List ℕ) (division next : ℕ) → header_of f ≡ Ok (division, next) → (0 < division) × (division < 2 ^ 15)
 header_divided f division next e = subst Divided e (header_divides f)
 
 -- ---- behind End of Track
 module _ (f : List ℕ) (full at : ℕ) where
-  pub behind_early : at < full → at < length f → behind_track f full at ≡ Broken (fault_at BehindEndOfTrack at)
+  pub behind_early : at < full → at < length f → behind_track f full at ≡ Err (fault_at BehindEndOfTrack at)
   unfolding behind_track
   behind_early h k =
       let early : at < min full (length f) = omega arith in
       simp (lt-ltb _ _ early)
 
-  pub behind_cut : length f ≤ at → length f < full → behind_track f full at ≡ Broken (fault_at Missing (length f))
+  pub behind_cut : length f ≤ at → length f < full → behind_track f full at ≡ Err (fault_at Missing (length f))
   unfolding behind_track
   behind_cut h k =
       let late : min full (length f) ≤ at = omega arith in
@@ -104,7 +101,7 @@ module _ (f : List ℕ) (full at : ℕ) where
 
 -- ---- the track chunk
 module _ (f : List ℕ) (at : ℕ) where
-  pub track_short : at ≤ length f → length f - at < 8 → track_of f at ≡ over (Broken (fault_at Missing (length f)))
+  pub track_short : at ≤ length f → length f - at < 8 → track_of f at ≡ over (Err (fault_at Missing (length f)))
   unfolding track_of
   track_short h k =
       let short : length f < at + 8 = omega arith in
@@ -116,6 +113,6 @@ module _ (f : List ℕ) (at : ℕ) where
       let long : at + 8 ≤ length f = omega arith in
       simp (le-ltb _ _ long)
 
-  pub events_found : (found : Found) → track_at f at ≡ found → events_of f at ≡ events_in f found
+  pub events_found : (found : Result (Option ℕ) Fault) → track_at f at ≡ found → events_of f at ≡ events_in f found
   unfolding events_of
   events_found found e = ap (events_in f) e

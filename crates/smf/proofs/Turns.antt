@@ -1,4 +1,5 @@
 -- A turn of the loop over a track's events: what is left of the song, put behind what was counted and written, is the whole song. Assumes nothing.
+use Rattle.std.specs.Prelude.{Result, Ok, Err}
 use mathlib.Core.Path.{◌≡◌, refl, sym, ap, ◌∙◌}
 use mathlib.Core.Bool.{true, false, cond}
 use mathlib.Core.List.{List, [], ◌∷◌, ◌++◌}
@@ -21,8 +22,6 @@ use Rattle.smf.specs.declared.events.Event.{Event}
 use Rattle.smf.specs.declared.events.Event.TheVariants.{Note, Tempo, Other}
 use Rattle.smf.specs.declared.events.Step.{Step}
 use Rattle.smf.specs.declared.events.Step.TheVariants as step
-use Rattle.smf.specs.declared.chunks.Verdict.{Verdict}
-use Rattle.smf.specs.declared.chunks.Verdict.TheVariants.{Broken}
 use Rattle.smf.proofs.Frames.{clock_zero, clock_bounds, late_same, entries_same}
 
 -- ---- two numbers an entry
@@ -83,32 +82,32 @@ module _ (f : List ℕ) (rate division full : ℕ) where
     bounded some = rw g.time (clock_bounds (unit_of division) some (rate * g.sum))
 
     -- the step at hand
-    abbrev pub here : Step
+    abbrev pub here : Result Step Fault
     here = step_at f (min full (length f)) running place
 
     on : left g.steps running place tempo g.sum ≡ song_from rate division tempo g.sum (events_on f full (events_from (pred g.steps) f full) here)
     on = ap (song_from rate division tempo g.sum) (events_on_lem g.steps f full running place (let h = g.enough in omega arith))
 
     -- nothing is left
-    done : (v : Verdict) → left g.steps running place tempo g.sum ≡ empty_with v → (count_closed v count ≡ count_of whole) × WrittenList list₀ list whole.entries
+    done : (v : Result (Unit {0}) Fault) → left g.steps running place tempo g.sum ≡ empty_with v → (count_closed v count ≡ count_of whole) × WrittenList list₀ list whole.entries
     unfolding numbers_of
     done v e =
         let verdict : v ≡ whole.verdict = sym (ap (λ (s : Song). s.verdict) e) ∙ g.verdict in
         let counts : count + 0 ≡ length whole.entries = sym (ap (λ (s : Song). count + length s.entries) e) ∙ g.counts in (
-          ap (count_closed v) (sym (add-zero count) ∙ counts) ∙ ap (λ (w : Verdict). count_closed w (length whole.entries)) verdict,
+          ap (count_closed v) (sym (add-zero count) ∙ counts) ∙ ap (λ (w : Result (Unit {0}) Fault). count_closed w (length whole.entries)) verdict,
           λ room. sym (ap (λ (s : Song). sets list (2 * count) (numbers_of s.entries)) e) ∙ g.writes room,
         )
 
-    pub broken : (why : Fault) → here ≡ step.Broken why → (count_closed (Broken why) count ≡ count_of whole) × WrittenList list₀ list whole.entries
+    pub broken : (why : Fault) → here ≡ Err why → (count_closed (Err why) count ≡ count_of whole) × WrittenList list₀ list whole.entries
     unfolding song_from events_on
-    broken why e = done (Broken why) (on ∙ rw e)
+    broken why e = done (Err why) (on ∙ rw e)
 
-    pub ended : (next : ℕ) → here ≡ step.End next → (count_closed (behind_track f full next) count ≡ count_of whole) × WrittenList list₀ list whole.entries
+    pub ended : (next : ℕ) → here ≡ Ok (step.End next) → (count_closed (behind_track f full next) count ≡ count_of whole) × WrittenList list₀ list whole.entries
     unfolding song_from events_on
     ended next e = done (behind_track f full next) (on ∙ rw e)
 
     -- an event, at the clock afterwards
-    module _ (delta : ℕ) (event : Event) (status next : ℕ) (is : here ≡ step.Is delta event status next) (clock' : Clock)
+    module _ (delta : ℕ) (event : Event) (status next : ℕ) (is : here ≡ Ok (step.Is delta event status next)) (clock' : Clock)
         (time' : clock' ≡ clock_at (unit_of division) (rate * g.sum + rate * (delta * tempo))) where
       abbrev sum' : ℕ
       sum' = g.sum + delta * tempo
@@ -120,7 +119,7 @@ module _ (f : List ℕ) (rate division full : ℕ) where
       behind = left (pred g.steps) status next (tempo_after tempo event) sum'
 
       on_event : left g.steps running place tempo g.sum
-          ≡ cond (too_late (frame_at rate division sum') event) (empty_with (Broken (fault_at LateFrame (next - 1)))) (entries_first (event_entries (frame_at rate division sum') event) behind)
+          ≡ cond (too_late (frame_at rate division sum') event) (empty_with (Err (fault_at LateFrame (next - 1)))) (entries_first (event_entries (frame_at rate division sum') event) behind)
       unfolding song_from events_on
       on_event = on ∙ rw is
 
@@ -128,9 +127,9 @@ module _ (f : List ℕ) (rate division full : ℕ) where
       unfolding frame_at
       late_there = ap (λ (k : Clock). too_late k.frames event) exact ∙ late_same (unit_of division) (rate * sum') event
 
-      pub late : too_late clock'.frames event ≡ true → (count_closed (Broken (fault_at LateFrame (next - 1))) count ≡ count_of whole) × WrittenList list₀ list whole.entries
+      pub late : too_late clock'.frames event ≡ true → (count_closed (Err (fault_at LateFrame (next - 1))) count ≡ count_of whole) × WrittenList list₀ list whole.entries
       late h = let there : too_late (frame_at rate division sum') event ≡ true = sym late_there ∙ h in
-          done (Broken (fault_at LateFrame (next - 1))) (on_event ∙ rw there)
+          done (Err (fault_at LateFrame (next - 1))) (on_event ∙ rw there)
 
       entries_there : too_late clock'.frames event ≡ false → event_entries clock'.frames event ≡ event_entries (frame_at rate division sum') event
       unfolding frame_at
@@ -183,7 +182,7 @@ one_entry frame (Tempo new) = omega arith
 one_entry frame Other = omega arith
 
 -- ---- a song without events
-pub over_now : (rate division : ℕ) (list : List ℕ) (v : Verdict) (es : Events) → es ≡ over v
+pub over_now : (rate division : ℕ) (list : List ℕ) (v : Result (Unit {0}) Fault) (es : Events) → es ≡ over v
     → (count_closed v 0 ≡ count_of (song_from rate division first_tempo 0 es)) × WrittenList list list (song_from rate division first_tempo 0 es).entries
 unfolding song_from numbers_of
 over_now rate division list v es e = rw e (refl, λ _. refl)

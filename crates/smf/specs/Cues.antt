@@ -1,6 +1,6 @@
 -- The starts and stops of a song with their frame counts, the list that holds them, and the answer of `read_song`.
 -- Definitions only.
-use Rattle.std.specs.Prelude.{Bool, false, not, cond, ◌&&◌, List, [], ◌∷◌, ◌++◌, ◌≡◌, ℕ, ◌+◌, ◌-◌, ◌*◌, ◌/◌, ◌%◌, ◌≤◌, ltb, leb, eqb, length, drop}
+use Rattle.std.specs.Prelude.{Result, Ok, Err, Bool, false, not, cond, ◌&&◌, List, [], ◌∷◌, ◌++◌, ◌≡◌, ℕ, ◌+◌, ◌-◌, ◌*◌, ◌/◌, ◌%◌, ◌≤◌, ltb, leb, eqb, length, drop}
 use Rattle.std.proofs.lemmas.List.Edits.{sets}
 use Rattle.std.specs.Float.{binary32}
 use Rattle.std.specs.Float.Ieee.{div}
@@ -12,15 +12,10 @@ use Rattle.smf.specs.Times.{first_tempo, frame_at, last_frame}
 use Rattle.smf.specs.declared.faults.Reason.TheVariants.{LateFrame}
 use Rattle.smf.specs.declared.events.Event.{Event}
 use Rattle.smf.specs.declared.events.Event.TheVariants.{Note, Tempo, Other}
-use Rattle.smf.specs.declared.chunks.Opening.{Opening}
-use Rattle.smf.specs.declared.chunks.Opening.TheVariants as opening
-use Rattle.smf.specs.declared.chunks.Verdict.{Verdict}
-use Rattle.smf.specs.declared.chunks.Verdict.TheVariants.{Good, Broken}
-use Rattle.smf.specs.declared.tracks.Count.{Count}
-use Rattle.smf.specs.declared.tracks.Count.TheVariants as count
-use Rattle.smf.specs.declared.Counted.{Counted}
-use Rattle.smf.specs.declared.Counted.TheVariants.{Done, BadRate, Faulty, Short}
+use Rattle.smf.specs.declared.SongRefusal.{SongRefusal}
+use Rattle.smf.specs.declared.SongRefusal.TheVariants.{BadRate, Faulty, Short}
 use Rattle.smf.specs.declared.Cue.{Cue}
+use Rattle.smf.specs.declared.faults.Fault.{Fault}
 
 -- ---- a song: its starts and stops up to the first fault, and what is wrong with it
 
@@ -31,7 +26,7 @@ pub record Entry : Type 0 where
 
 pub record Song : Type 0 where
   pub entries : List Entry
-  pub verdict : Verdict
+  pub verdict : Result (Unit {0}) Fault
 
 -- what an event at a frame adds to the song
 unfoldable pub event_entries : ℕ → Event → List Entry
@@ -51,7 +46,7 @@ too_late frame (Note key) = ltb last_frame frame
 too_late frame (Tempo new) = false
 too_late frame Other = false
 
-abbrev pub empty_with : Verdict → Song
+abbrev pub empty_with : Result (Unit {0}) Fault → Song
 empty_with v = record { entries = []; verdict = v }
 
 abbrev pub entries_first : List Entry → Song → Song
@@ -63,22 +58,22 @@ song_from rate division tempo sum (over v) = empty_with v
 song_from rate division tempo sum (then delta event next rest) =
     let later = sum + delta * tempo in
     let frame = frame_at rate division later in
-    cond (too_late frame event) (empty_with (Broken (fault_at LateFrame (next - 1))))
+    cond (too_late frame event) (empty_with (Err (fault_at LateFrame (next - 1))))
     (entries_first (event_entries frame event) (song_from rate division (tempo_after tempo event) later rest))
 
-abbrev pub song_in : ℕ → List ℕ → Opening → Song
-song_in rate f (opening.Broken why) = empty_with (Broken why)
-song_in rate f (opening.Is division next) = song_from rate division first_tempo 0 (events_of f next)
+abbrev pub song_in : ℕ → List ℕ → Result (ℕ × ℕ) Fault → Song
+song_in rate f (Err why) = empty_with (Err why)
+song_in rate f (Ok (division, next)) = song_from rate division first_tempo 0 (events_of f next)
 
 unfoldable pub song_of : ℕ → List ℕ → Song
 song_of rate f = song_in rate f (header_of f)
 
 -- how many starts and stops, where nothing is wrong
-unfoldable pub count_closed : Verdict → ℕ → Count
-count_closed Good n = count.Done n
-count_closed (Broken why) n = count.Broken why
+unfoldable pub count_closed : Result (Unit {0}) Fault → ℕ → Result ℕ Fault
+count_closed (Ok done) n = Ok n
+count_closed (Err why) n = Err why
 
-abbrev pub count_of : Song → Count
+abbrev pub count_of : Song → Result ℕ Fault
 count_of s = count_closed s.verdict (length s.entries)
 
 -- ---- the list: two numbers for each start or stop
@@ -95,29 +90,32 @@ WrittenList list after es = 2 * length es ≤ length list → after ≡ sets lis
 abbrev pub good_rate : ℕ → Bool
 good_rate rate = leb 1 rate && leb rate 192000
 
-abbrev pub room_judged : ℕ → Count → Counted
-room_judged room (count.Done n) = cond (leb (2 * n) room) (Done n) (Short n)
-room_judged room (count.Broken why) = Faulty why
+abbrev pub room_judged : ℕ → Result ℕ Fault → Result ℕ SongRefusal
+room_judged room (Ok n) = cond (leb (2 * n) room) (Ok n) (Err (Short n))
+room_judged room (Err why) = Err (Faulty why)
 
-unfoldable pub counted_judged : List ℕ → ℕ → ℕ → Counted
-counted_judged f rate room = cond (good_rate rate) (room_judged room (count_of (song_of rate f))) BadRate
+unfoldable pub counted_judged : List ℕ → ℕ → ℕ → Result ℕ SongRefusal
+counted_judged f rate room = cond (good_rate rate) (room_judged room (count_of (song_of rate f))) (Err BadRate)
 
 -- the list afterwards: a refused song leaves it
-abbrev pub cues_after : List Entry → List ℕ → Counted → List ℕ
-cues_after es list (Done n) = numbers_of es ++ drop (2 * n) list
-cues_after es list BadRate = list
-cues_after es list (Faulty why) = list
-cues_after es list (Short n) = list
+abbrev pub cues_after : List Entry → List ℕ → Result ℕ SongRefusal → List ℕ
+cues_after es list (Ok n) = numbers_of es ++ drop (2 * n) list
+cues_after es list (Err BadRate) = list
+cues_after es list (Err (Faulty why)) = list
+cues_after es list (Err (Short n)) = list
 
 unfoldable pub list_of : List ℕ → ℕ → List ℕ → List ℕ
 list_of f rate list = cues_after (song_of rate f).entries list (counted_judged f rate (length list))
 
--- the number of the answer
-unfoldable pub cues_number : Counted → ℕ
-cues_number (Done n) = 0
-cues_number BadRate = 22
-cues_number (Faulty why) = refusal_of why.reason
-cues_number (Short n) = 8
+-- the number of a refusal, and that of the answer
+abbrev pub song_number : SongRefusal → ℕ
+song_number BadRate = 22
+song_number (Faulty why) = refusal_of why.reason
+song_number (Short n) = 8
+
+unfoldable pub cues_number : Result ℕ SongRefusal → ℕ
+cues_number (Ok n) = 0
+cues_number (Err why) = song_number why
 
 -- ---- an entry read back: velocity v is v / 127, rounded once; velocity 0 is a stop. The note stays packed, as the
 -- engine packs it

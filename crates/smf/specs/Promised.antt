@@ -1,6 +1,6 @@
 -- What request 6/12 asks of a song's list, sentence by sentence, said of the definitions that `read_song` is proved to
 -- equal. `proofs/Promised: promised` proves it.
-use Rattle.std.specs.Prelude.{◌≡◌, true, false, not, List, [], ◌∷◌, ◌++◌, ℕ, ◌+◌, ◌*◌, ◌/◌, ◌^◌, ◌≤◌, ◌<◌, eqb, length, drop, ◌≢◌}
+use Rattle.std.specs.Prelude.{Result, Ok, Err, ◌≡◌, true, false, not, List, [], ◌∷◌, ◌++◌, ℕ, ◌+◌, ◌*◌, ◌/◌, ◌^◌, ◌≤◌, ◌<◌, eqb, length, drop, ◌≢◌}
 use Rattle.std.specs.Float.{binary32}
 use Rattle.std.specs.Float.Ieee.{div}
 use Rattle.binary32.specs.Leaves.{as_float}
@@ -24,10 +24,7 @@ use Rattle.smf.specs.declared.faults.Reason.{Reason}
 use Rattle.smf.specs.declared.faults.Reason.TheVariants.{OtherFormat, SmpteDivision, LateFrame}
 use Rattle.smf.specs.declared.faults.Fault.{Fault}
 use Rattle.smf.specs.declared.events.Event.{Event}
-use Rattle.smf.specs.declared.chunks.Opening.TheVariants as opening
-use Rattle.smf.specs.declared.chunks.Verdict.TheVariants.{Good, Broken}
-use Rattle.smf.specs.declared.Counted.{Counted}
-use Rattle.smf.specs.declared.Counted.TheVariants.{Done}
+use Rattle.smf.specs.declared.SongRefusal.{SongRefusal}
 
 -- ---- "the frame count of each, worked out exactly over whole numbers and rounded down once from the start of the
 -- song"
@@ -65,11 +62,11 @@ NeverFall before (e ∷ es) = (before ≤ e.frame) × NeverFall e.frame es
 -- ---- the numbers, in their order
 pub record Rows (f : List ℕ) (rate room : ℕ) : Type 0 where
   pub rate_row : good_rate rate ≡ false → cues_number (counted_judged f rate room) ≡ 22
-  pub fault_row : (why : Fault) → good_rate rate ≡ true → (song_of rate f).verdict ≡ Broken why
+  pub fault_row : (why : Fault) → good_rate rate ≡ true → (song_of rate f).verdict ≡ Err why
       → cues_number (counted_judged f rate room) ≡ refusal_of why.reason
-  pub room_row : good_rate rate ≡ true → (song_of rate f).verdict ≡ Good → room < 2 * length (song_of rate f).entries
+  pub room_row : good_rate rate ≡ true → (song_of rate f).verdict ≡ (Ok tt) → room < 2 * length (song_of rate f).entries
       → cues_number (counted_judged f rate room) ≡ 8
-  pub done_row : good_rate rate ≡ true → (song_of rate f).verdict ≡ Good → 2 * length (song_of rate f).entries ≤ room
+  pub done_row : good_rate rate ≡ true → (song_of rate f).verdict ≡ (Ok tt) → 2 * length (song_of rate f).entries ≤ room
       → cues_number (counted_judged f rate room) ≡ 0
 
 -- 13 for another format or a SMPTE division, 14 for a start or stop later than any frame, 12 for every other fault
@@ -81,8 +78,8 @@ pub record FaultNumbers : Type 0 where
 
 pub record Promised : Type 0 where
   -- a good song's list is that of its events, each start and stop at its exact frame
-  pub exact : (rate : ℕ) (f : List ℕ) (division next : ℕ) → header_of f ≡ opening.Is division next
-      → (song_of rate f).verdict ≡ Good
+  pub exact : (rate : ℕ) (f : List ℕ) (division next : ℕ) → header_of f ≡ Ok (division, next)
+      → (song_of rate f).verdict ≡ Ok tt
       → (song_of rate f).entries ≡ sounds_behind rate division [] (timed_of (events_of f next))
   -- counts never fall, and none is above 2 ^ 48
   pub in_order : (rate : ℕ) (f : List ℕ) → NeverFall 0 (song_of rate f).entries
@@ -97,8 +94,8 @@ pub record Promised : Type 0 where
   pub written : (f : List ℕ) (rate : ℕ) (list : List ℕ) → cues_number (counted_judged f rate (length list)) ≡ 0
       → list_of f rate list ≡ numbers_of (song_of rate f).entries ++ drop (2 * length (song_of rate f).entries) list
   -- a song that is read is good, and the count is that of its starts and stops
-  pub counted : (f : List ℕ) (rate room n : ℕ) → counted_judged f rate room ≡ Done n
-      → ((song_of rate f).verdict ≡ Good) × (length (song_of rate f).entries ≡ n)
+  pub counted : (f : List ℕ) (rate room n : ℕ) → counted_judged f rate room ≡ Ok n
+      → ((song_of rate f).verdict ≡ Ok tt) × (length (song_of rate f).entries ≡ n)
   -- an entry read back by its packed words: its note and channel stay packed; velocity v is v / 127, in one division,
   -- and it is a start exactly where v isn't 0
   pub read_back : (frame key channel velocity : ℕ) → key < 128 → channel < 16 → velocity < 128
@@ -109,6 +106,6 @@ pub record Promised : Type 0 where
         starts = not (eqb velocity 0);
       }
   -- one input, one outcome
-  pub settled : (f : List ℕ) (rate : ℕ) (list : List ℕ) (r s : Counted) (l m : List ℕ)
+  pub settled : (f : List ℕ) (rate : ℕ) (list : List ℕ) (r s : Result ℕ SongRefusal) (l m : List ℕ)
       → r ≡ counted_judged f rate (length list) → s ≡ counted_judged f rate (length list)
       → l ≡ list_of f rate list → m ≡ list_of f rate list → (r ≡ s) × (l ≡ m)

@@ -15,7 +15,7 @@ ghost use Rattle.smf.specs.Events.{
 };
 
 use crate::faults::{Fault, Reason};
-use crate::fields::{Quantity, quantity_at, three_at};
+use crate::fields::{quantity_at, three_at};
 use octets::byte_at;
 
 #[derive(Clone, Copy)]
@@ -37,7 +37,6 @@ pub enum Read {
         next: usize,
     },
     End(usize),
-    Broken(Fault),
 }
 
 // The same with the event's delta-time.
@@ -50,29 +49,22 @@ pub enum Step {
         next: usize,
     },
     End(usize),
-    Broken(Fault),
 }
 
-#[derive(Clone, Copy)]
-pub enum Data {
-    Is(u8),
-    Broken(Fault),
-}
-
-fn data_at(file: &[u8], end: usize, at: usize) -> Data
+fn data_at(file: &[u8], end: usize, at: usize) -> Result<u8, Fault>
     ensures { result ≡ data_at file.now end at }
 {
     if end <= at {
-        return Data::Broken(Fault {
+        return Err(Fault {
             reason: Reason::Missing,
             at,
         });
     }
     let byte = byte_at(file, at);
     if byte < 128 {
-        Data::Is(byte)
+        Ok(byte)
     } else {
-        Data::Broken(Fault {
+        Err(Fault {
             reason: Reason::NoDataByte,
             at,
         })
@@ -99,58 +91,52 @@ fn message(status: u8, first: u8, second: u8) -> Event
 }
 
 // A channel's message of this status, from its first data byte on.
-fn channel_at(file: &[u8], end: usize, status: u8, at: usize) -> Read
+fn channel_at(file: &[u8], end: usize, status: u8, at: usize) -> Result<Read, Fault>
     ensures { result ≡ channel_event file.now end status at }
 {
-    match data_at(file, end, at) {
-        Data::Broken(fault) => Read::Broken(fault),
-        Data::Is(first) => {
-            if one_byte(status) {
-                return Read::Is {
-                    event: Event::Other,
-                    status,
-                    next: at + 1,
-                };
-            }
-            match data_at(file, end, at + 1) {
-                Data::Broken(fault) => Read::Broken(fault),
-                Data::Is(second) => Read::Is {
-                    event: message(status, first, second),
-                    status,
-                    next: at + 2,
-                },
-            }
-        }
+    let first = data_at(file, end, at)?;
+    if one_byte(status) {
+        return Ok(Read::Is {
+            event: Event::Other,
+            status,
+            next: at + 1,
+        });
     }
+    let second = data_at(file, end, at + 1)?;
+    Ok(Read::Is {
+        event: message(status, first, second),
+        status,
+        next: at + 2,
+    })
 }
 
-fn tempo_body(file: &[u8], end: usize, size: usize, at: usize) -> Read
+fn tempo_body(file: &[u8], end: usize, size: usize, at: usize) -> Result<Read, Fault>
     requires at_nonzero { 0 < at }
     requires at_le_end { at ≤ end }
     requires end_bound { end < 2 ^ 63 }
     ensures { result ≡ tempo_of file.now end size at }
 {
     if size < 3 {
-        return Read::Broken(Fault {
+        return Err(Fault {
             reason: Reason::ShortTempo,
             at: at - 1,
         });
     }
     if end - at < size {
-        return Read::Broken(Fault {
+        return Err(Fault {
             reason: Reason::Missing,
             at: end,
         });
     }
-    Read::Is {
+    Ok(Read::Is {
         event: Event::Tempo(three_at(file, at)),
         status: 0,
         next: at + size,
-    }
+    })
 }
 
 // A meta event from its data on.
-fn meta_body(file: &[u8], end: usize, kind: u8, size: usize, at: usize) -> Read
+fn meta_body(file: &[u8], end: usize, kind: u8, size: usize, at: usize) -> Result<Read, Fault>
     requires at_nonzero { 0 < at }
     requires at_le_end { at ≤ end }
     requires end_bound { end < 2 ^ 63 }
@@ -160,71 +146,65 @@ fn meta_body(file: &[u8], end: usize, kind: u8, size: usize, at: usize) -> Read
         return tempo_body(file, end, size, at);
     }
     if end - at < size {
-        return Read::Broken(Fault {
+        return Err(Fault {
             reason: Reason::Missing,
             at: end,
         });
     }
     if kind == 0x2f {
-        return Read::End(at + size);
+        return Ok(Read::End(at + size));
     }
-    Read::Is {
+    Ok(Read::Is {
         event: Event::Other,
         status: 0,
         next: at + size,
-    }
+    })
 }
 
 // A meta event from its type on.
-fn meta_at(file: &[u8], end: usize, at: usize) -> Read
+fn meta_at(file: &[u8], end: usize, at: usize) -> Result<Read, Fault>
     requires { end < 2 ^ 63 }
     ensures { result ≡ meta_at file.now end at }
 {
     if end <= at {
-        return Read::Broken(Fault {
+        return Err(Fault {
             reason: Reason::Missing,
             at,
         });
     }
     let kind = byte_at(file, at);
     if 128 <= kind {
-        return Read::Broken(Fault {
+        return Err(Fault {
             reason: Reason::NoMetaType,
             at,
         });
     }
-    match quantity_at(file, end, at + 1) {
-        Quantity::Broken(fault) => Read::Broken(fault),
-        Quantity::Is { value, next } => meta_body(file, end, kind, value as usize, next),
-    }
+    let (value, next) = quantity_at(file, end, at + 1)?;
+    meta_body(file, end, kind, value as usize, next)
 }
 
 // A system exclusive event from its length on.
-fn sysex_at(file: &[u8], end: usize, at: usize) -> Read
+fn sysex_at(file: &[u8], end: usize, at: usize) -> Result<Read, Fault>
     requires { end < 2 ^ 63 }
     ensures { result ≡ sysex_at file.now end at }
 {
-    match quantity_at(file, end, at) {
-        Quantity::Broken(fault) => Read::Broken(fault),
-        Quantity::Is { value, next } => {
-            let size = value as usize;
-            if end - next < size {
-                return Read::Broken(Fault {
-                    reason: Reason::Missing,
-                    at: end,
-                });
-            }
-            Read::Is {
-                event: Event::Other,
-                status: 0,
-                next: next + size,
-            }
-        }
+    let (value, next) = quantity_at(file, end, at)?;
+    let size = value as usize;
+    if end - next < size {
+        return Err(Fault {
+            reason: Reason::Missing,
+            at: end,
+        });
     }
+    Ok(Read::Is {
+        event: Event::Other,
+        status: 0,
+        next: next + size,
+    })
 }
 
 // An event of which this status byte was read, from behind it on.
-fn status_event(file: &[u8], end: usize, status: u8, at: usize) -> Read
+fn status_event(file: &[u8], end: usize, status: u8, at: usize) -> Result<Read, Fault>
     requires at_nonzero { 0 < at }
     requires end_bound { end < 2 ^ 63 }
     ensures { result ≡ status_of file.now end status at }
@@ -241,18 +221,18 @@ fn status_event(file: &[u8], end: usize, status: u8, at: usize) -> Read
     if status == 247 {
         return sysex_at(file, end, at);
     }
-    Read::Broken(Fault {
+    Err(Fault {
         reason: Reason::SystemStatus,
         at: at - 1,
     })
 }
 
-pub fn event_at(file: &[u8], end: usize, running: u8, at: usize) -> Read
+pub fn event_at(file: &[u8], end: usize, running: u8, at: usize) -> Result<Read, Fault>
     requires { end < 2 ^ 63 }
     ensures { result ≡ event_at file.now end running at }
 {
     if end <= at {
-        return Read::Broken(Fault {
+        return Err(Fault {
             reason: Reason::Missing,
             at,
         });
@@ -262,7 +242,7 @@ pub fn event_at(file: &[u8], end: usize, running: u8, at: usize) -> Read
         return status_event(file, end, byte, at + 1);
     }
     if running == 0 {
-        return Read::Broken(Fault {
+        return Err(Fault {
             reason: Reason::NoRunningStatus,
             at,
         });
@@ -270,31 +250,28 @@ pub fn event_at(file: &[u8], end: usize, running: u8, at: usize) -> Read
     channel_at(file, end, running, at)
 }
 
-pub fn step_at(file: &[u8], end: usize, running: u8, at: usize) -> Step
+pub fn step_at(file: &[u8], end: usize, running: u8, at: usize) -> Result<Step, Fault>
     requires { end < 2 ^ 63 }
     ensures { result ≡ step_at file.now end running at }
 {
     if end <= at {
-        return Step::Broken(Fault {
+        return Err(Fault {
             reason: Reason::NoEndOfTrack,
             at,
         });
     }
-    match quantity_at(file, end, at) {
-        Quantity::Broken(fault) => Step::Broken(fault),
-        Quantity::Is { value, next } => match event_at(file, end, running, next) {
-            Read::Broken(fault) => Step::Broken(fault),
-            Read::End(behind) => Step::End(behind),
-            Read::Is {
-                event,
-                status,
-                next: behind,
-            } => Step::Is {
-                delta: value,
-                event,
-                status,
-                next: behind,
-            },
-        },
+    let (delta, behind) = quantity_at(file, end, at)?;
+    match event_at(file, end, running, behind)? {
+        Read::End(next) => Ok(Step::End(next)),
+        Read::Is {
+            event,
+            status,
+            next,
+        } => Ok(Step::Is {
+            delta,
+            event,
+            status,
+            next,
+        }),
     }
 }

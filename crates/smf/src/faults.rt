@@ -2,7 +2,7 @@
 ghost use Rattle.std.specs.Prelude.{◌≡◌};
 ghost use Rattle.smf.specs.Faults.{refusal_of};
 
-#[derive(Clone, Copy)]
+#[derive(Clone, Copy, PartialEq, Eq, Debug)]
 pub enum Reason {
     // The file, or the track, ends where a byte is due.
     Missing,
@@ -26,7 +26,7 @@ pub enum Reason {
     LateFrame,
 }
 
-#[derive(Clone, Copy)]
+#[derive(Clone, Copy, PartialEq, Eq, Debug)]
 pub struct Fault {
     pub reason: Reason,
     pub at: usize,

@@ -36,14 +36,8 @@ pub fn four_at(file: &[u8], at: usize) -> u32
     )
 }
 
-#[derive(Clone, Copy)]
-pub enum Quantity {
-    Is { value: u32, next: usize },
-    Broken(Fault),
-}
-
-// `used` bytes stand before this place, of four at most.
-pub fn quantity_at(file: &[u8], end: usize, at: usize) -> Quantity
+// A quantity and the place behind it. `used` bytes stand before this place, of four at most.
+pub fn quantity_at(file: &[u8], end: usize, at: usize) -> Result<(u32, usize), Fault>
     ensures { result ≡ quantity_at file.now end at }
 {
     let mut used: u32 = 0;
@@ -51,20 +45,17 @@ pub fn quantity_at(file: &[u8], end: usize, at: usize) -> Quantity
     let mut place = at;
     loop {
         if end <= place {
-            return Quantity::Broken(Fault {
+            return Err(Fault {
                 reason: Reason::Missing,
                 at: place,
             });
         }
         let byte = byte_at(file, place) as u32;
         if byte < 128 {
-            return Quantity::Is {
-                value: value * 128 + byte,
-                next: place + 1,
-            };
+            return Ok((value * 128 + byte, place + 1));
         }
         if used == 3 {
-            return Quantity::Broken(Fault {
+            return Err(Fault {
                 reason: Reason::LongQuantity,
                 at: place,
             });

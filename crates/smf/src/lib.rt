@@ -10,18 +10,19 @@ pub mod fields;
 mod tracks;
 
 ghost use Rattle.std.specs.Prelude.{◌≡◌, length};
-ghost use Rattle.smf.specs.Cues.{counted_judged, list_of, cues_number, cue_of};
+ghost use Rattle.smf.specs.declared.SongRefusal.TheVariants.{Faulty};
+ghost use Rattle.smf.specs.Cues.{counted_judged, list_of, song_number, cue_of};
 
 use faults::Fault;
-use tracks::{Count, song};
+use tracks::song;
 
-#[derive(Clone, Copy)]
-pub enum Counted {
-    // So many starts and stops are in the list, two numbers each.
-    Done(usize),
+// Why a song isn't read.
+#[derive(Clone, Copy, PartialEq, Eq, Debug)]
+pub enum SongRefusal {
+    // The rate isn't in 1 to 192,000.
     BadRate,
     Faulty(Fault),
-    // The list has no room for so many.
+    // The list has no room for so many starts and stops.
     Short(usize),
 }
 
@@ -34,43 +35,43 @@ pub struct Cue {
     pub starts: bool,
 }
 
-// Reads a song for a rate of so many frames a second. A refused one leaves the list as it was.
-pub fn read_song(file: &[u8], rate: u32, list: &mut [u64]) -> Counted
+// Reads a song for a rate of so many frames a second, and answers how many starts and stops are in the list, two numbers
+// each. A refused one leaves the list as it was.
+pub fn read_song(file: &[u8], rate: u32, list: &mut [u64]) -> Result<usize, SongRefusal>
     ensures value { result ≡ counted_judged file.now rate (length list.old) }
     ensures list_after { list.new ≡ list_of file.now rate list.old }
 {
     if rate < 1 {
-        return Counted::BadRate;
+        return Err(SongRefusal::BadRate);
     }
     if 192000 < rate {
-        return Counted::BadRate;
+        return Err(SongRefusal::BadRate);
     }
     let mut none = [0u64; 1];
-    match song(file, rate, &mut none) {
-        Count::Broken(fault) => Counted::Faulty(fault),
-        Count::Done(count) => {
-            if list.len() / 2 < count {
-                return Counted::Short(count);
-            }
-            song(file, rate, list);
-            Counted::Done(count)
-        }
+    let count = song(file, rate, &mut none)?;
+    if list.len() / 2 < count {
+        return Err(SongRefusal::Short(count));
+    }
+    song(file, rate, list)?;
+    Ok(count)
+}
+
+impl From<Fault> for SongRefusal {
+    ghost from_gives = { λ fault refusal. refusal ≡ Faulty fault };
+
+    fn from(fault: Fault) -> SongRefusal {
+        SongRefusal::Faulty(fault)
     }
 }
 
-impl Counted {
-    // The number of the refusal; 0 where the song was read.
+impl SongRefusal {
     pub fn number(self) -> u8
-        ensures { result ≡ cues_number self }
+        ensures { result ≡ song_number self }
     {
         match self {
-            Counted::Done(_) => 0,
-            Counted::BadRate => 22,
-            Counted::Faulty(fault) => {
-                let reason = fault.reason;
-                faults::refusal(reason)
-            }
-            Counted::Short(_) => 8,
+            SongRefusal::BadRate => 22,
+            SongRefusal::Faulty(fault) => faults::refusal(fault.reason),
+            SongRefusal::Short(_) => 8,
         }
     }
 }

@@ -15,19 +15,11 @@ ghost use Rattle.smf.specs.Cues.{
   WrittenList,
 };
 
-use crate::chunks::{Found, Opening, Verdict, behind, header, track_at};
+use crate::chunks::{behind, header, track_at};
 use crate::clock::{Clock, LAST_FRAME, Tune, later};
 use crate::events::{Event, Step, step_at};
 use crate::faults::{Fault, Reason};
 use crate::fields::four_at;
-use walks::smaller;
-
-// How many starts and stops a song has.
-#[derive(Clone, Copy)]
-pub enum Count {
-    Done(usize),
-    Broken(Fault),
-}
 
 fn tempo_after(tempo: u32, event: Event) -> u32
     ensures { result ≡ tempo_after tempo event }
@@ -71,17 +63,15 @@ fn put(list: &mut [u64], count: usize, frame: u64, event: Event) -> usize
     }
 }
 
-fn closed(verdict: Verdict, count: usize) -> Count
-    ensures { result ≡ count_closed verdict count }
-{
-    match verdict {
-        Verdict::Good => Count::Done(count),
-        Verdict::Broken(fault) => Count::Broken(fault),
-    }
-}
-
-// The events of a track chunk that ends at `full`, from a place on.
-fn events(file: &[u8], rate: u32, division: u32, full: usize, at: usize, list: &mut [u64]) -> Count
+// How many starts and stops there are among the events of a track chunk that ends at `full`, from a place on.
+fn events(
+    file: &[u8],
+    rate: u32,
+    division: u32,
+    full: usize,
+    at: usize,
+    list: &mut [u64],
+) -> Result<usize, Fault>
     requires rate_bound { (rate ≤ 192000) × (0 < division) × (division < 2 ^ 15) }
     requires at_nonzero { (0 < at) × (at ≤ min full (length file.now)) }
     ensures value { result ≡ count_of (song_from rate division first_tempo 0 (chunk_events file.now full at)) }
@@ -92,16 +82,18 @@ fn events(file: &[u8], rate: u32, division: u32, full: usize, at: usize, list: &
         rate: rate as u64,
         unit: (division as u64) * 1_000_000,
     };
-    let end = smaller(full, file.len());
+    let end = full.min(file.len());
     let mut place = at;
     let mut running: u8 = 0;
     let mut tempo: u32 = 500_000;
     let mut clock = Clock { frames: 0, rest: 0 };
     let mut count: usize = 0;
     loop {
-        match step_at(file, end, running, place) {
-            Step::Broken(fault) => return Count::Broken(fault),
-            Step::End(next) => return closed(behind(file, full, next), count),
+        match step_at(file, end, running, place)? {
+            Step::End(next) => {
+                behind(file, full, next)?;
+                return Ok(count);
+            }
             Step::Is {
                 delta,
                 event,
@@ -111,7 +103,7 @@ fn events(file: &[u8], rate: u32, division: u32, full: usize, at: usize, list: &
                 clock = later(tune, clock, delta, tempo);
                 let frame = clock.frames;
                 if late(frame, event) {
-                    return Count::Broken(Fault {
+                    return Err(Fault {
                         reason: Reason::LateFrame,
                         at: next - 1,
                     });
@@ -126,7 +118,7 @@ fn events(file: &[u8], rate: u32, division: u32, full: usize, at: usize, list: &
 }
 
 // The track chunk at a place.
-fn track(file: &[u8], rate: u32, division: u32, at: usize, list: &mut [u64]) -> Count
+fn track(file: &[u8], rate: u32, division: u32, at: usize, list: &mut [u64]) -> Result<usize, Fault>
     requires rate_bound { (rate ≤ 192000) × (0 < division) × (division < 2 ^ 15) }
     requires at_in_bounds { at ≤ length file.now }
     ensures value { result ≡ count_of (song_from rate division first_tempo 0 (track_of file.now at)) }
@@ -135,7 +127,7 @@ fn track(file: &[u8], rate: u32, division: u32, at: usize, list: &mut [u64]) -> 
 {
     let all = file.len();
     if all - at < 8 {
-        return Count::Broken(Fault {
+        return Err(Fault {
             reason: Reason::Missing,
             at: all,
         });
@@ -144,29 +136,32 @@ fn track(file: &[u8], rate: u32, division: u32, at: usize, list: &mut [u64]) -> 
     events(file, rate, division, full, at + 8, list)
 }
 
-fn tracks(file: &[u8], rate: u32, division: u32, at: usize, list: &mut [u64]) -> Count
+fn tracks(
+    file: &[u8],
+    rate: u32,
+    division: u32,
+    at: usize,
+    list: &mut [u64],
+) -> Result<usize, Fault>
     requires { (rate ≤ 192000) × (0 < division) × (division < 2 ^ 15) }
     ensures value { result ≡ count_of (song_from rate division first_tempo 0 (events_of file.now at)) }
     ensures written_list { WrittenList list.old list.new
         (song_from rate division first_tempo 0 (events_of file.now at)).entries }
 {
-    match track_at(file, at) {
-        Found::Broken(fault) => Count::Broken(fault),
-        Found::Nothing => Count::Broken(Fault {
+    match track_at(file, at)? {
+        None => Err(Fault {
             reason: Reason::NoTrack,
             at: file.len(),
         }),
-        Found::Track(place) => track(file, rate, division, place, list),
+        Some(place) => track(file, rate, division, place, list),
     }
 }
 
-pub fn song(file: &[u8], rate: u32, list: &mut [u64]) -> Count
+pub fn song(file: &[u8], rate: u32, list: &mut [u64]) -> Result<usize, Fault>
     requires { rate ≤ 192000 }
     ensures value { result ≡ count_of (song_of rate file.now) }
     ensures written_list { WrittenList list.old list.new (song_of rate file.now).entries }
 {
-    match header(file) {
-        Opening::Broken(fault) => Count::Broken(fault),
-        Opening::Is { division, next } => tracks(file, rate, division, next, list),
-    }
+    let (division, next) = header(file)?;
+    tracks(file, rate, division, next, list)
 }

@@ -1,4 +1,5 @@
 -- What the reader takes, the grammar spells, and what stands before a fault is what the grammar lets stand there: chunks and the header. Assumes nothing.
+use Rattle.std.specs.Prelude.{Option, Some, None, Result, Ok, Err}
 use mathlib.Core.Path.{◌≡◌, refl, sym, ap, ◌∙◌, subst}
 use mathlib.Core.Bool.{Bool, true, false, cond, not}
 use mathlib.Core.List.{List, [], ◌∷◌, ◌++◌, append-nil, append_assoc}
@@ -12,10 +13,6 @@ use Rattle.octets.specs.Octets.{byte_at, number_after, number_of}
 use Rattle.smf.specs.Fields.{two_at, four_at}
 use Rattle.smf.specs.Files.{header_type, track_type, fields_of, header_of, chunk_at, track_from}
 use Rattle.smf.specs.declared.faults.Fault.{Fault}
-use Rattle.smf.specs.declared.chunks.Opening.{Opening}
-use Rattle.smf.specs.declared.chunks.Opening.TheVariants as opening
-use Rattle.smf.specs.declared.chunks.Found.{Found}
-use Rattle.smf.specs.declared.chunks.Found.TheVariants as found
 use Rattle.smf.proofs.Inside.{both}
 use Rattle.song_grammar.specs.Grammar.{Chunk, MThd, MTrk, Header, Aliens}
 use Rattle.song_grammar.specs.Grammar.Chunk.{chunk}
@@ -97,10 +94,10 @@ module _ (f : List ℕ) where
     unnamed : (at n : ℕ) (bytes : List ℕ) → number_of bytes ≡ n → four_at f at ≢ n → Four at ≢ bytes
     unnamed at n bytes is h e = h (four_number at ∙ ap number_of e ∙ is)
 
-    abbrev pub Searched : ℕ → Found → Type 0
-    Searched at (found.Track place) = Spelt f Aliens at place × From f place MTrk (place + 4) × (place + 4 ≤ length f)
-    Searched at found.Nothing = Spelt f Aliens at (length f)
-    Searched at (found.Broken why) = Stops AlienPart at why
+    abbrev pub Searched : ℕ → Result (Option ℕ) Fault → Type 0
+    Searched at (Ok (Some place)) = Spelt f Aliens at place × From f place MTrk (place + 4) × (place + 4 ≤ length f)
+    Searched at (Ok None) = Spelt f Aliens at (length f)
+    Searched at (Err why) = Stops AlienPart at why
 
     none_here : (at next : ℕ) → at ≡ next → Spelt f Aliens at next
     none_here at next e = record { bytes = []; is = none; there = e }
@@ -131,11 +128,11 @@ module _ (f : List ℕ) where
       behind : (bytes : List ℕ) (next : ℕ) → From f (at + 8 + size) bytes next → From f at (whole ++ bytes) next
       behind bytes next h = join f at whole (at + 8 + size) bytes next whole_there h
 
-      goes_on : (r : Found) → Searched (at + 8 + size) r → Searched at r
-      goes_on (found.Track place) (s, type, room) =
+      goes_on : (r : Result (Option ℕ) Fault) → Searched (at + 8 + size) r → Searched at r
+      goes_on (Ok (Some place)) (s, type, room) =
           (record { bytes = whole ++ s.bytes; is = passed s.is; there = behind s.bytes place s.there }, type, room)
-      goes_on found.Nothing s = record { bytes = whole ++ s.bytes; is = passed s.is; there = behind s.bytes (length f) s.there }
-      goes_on (found.Broken why) s = record {
+      goes_on (Ok None) s = record { bytes = whole ++ s.bytes; is = passed s.is; there = behind s.bytes (length f) s.there }
+      goes_on (Err why) s = record {
         start = s.start;
         width = s.width;
         spelt = record {
@@ -203,9 +200,9 @@ module _ (f : List ℕ) where
         goes_on at no_Header no_track (track_from n f (at + 8 + four_at f (at + 4))) (search n (at + 8 + four_at f (at + 4)) up (omega arith))))))))
 
     -- ---- the header
-    abbrev pub Opens : Opening → Type 0
-    Opens (opening.Is division next) = Spelt f (λ (bytes : List ℕ). Header bytes division) 0 next × (next ≤ length f)
-    Opens (opening.Broken why) = Stops Due 0 why
+    abbrev pub Opens : Result (ℕ × ℕ) Fault → Type 0
+    Opens (Ok (division, next)) = Spelt f (λ (bytes : List ℕ). Header bytes division) 0 next × (next ≤ length f)
+    Opens (Err why) = Stops Due 0 why
 
     pub two_number : (at n : ℕ) → two_at f at ≡ n → byte_at f at * 256 + byte_at f (at + 1) ≡ n
     unfolding two_at number_of number_after
@@ -250,7 +247,7 @@ module _ (f : List ℕ) where
             header small (subst (λ (d : ℕ). 0 < d) division positive) (chunked 0 MThd is (0 ∷ 0 ∷ 0 ∷ 1 ∷ high ∷ low ∷ more) n)
 
         -- from behind the division on
-        opened : (why : Fault) → why.at ≡ length f → 14 ≤ length f → Opens (cond (ltb (length f) (8 + four_at f 4)) (opening.Broken why) (opening.Is (two_at f 12) (8 + four_at f 4)))
+        opened : (why : Fault) → why.at ≡ length f → 14 ≤ length f → Opens (cond (ltb (length f) (8 + four_at f 4)) (Err why) (Ok (two_at f 12, 8 + four_at f 4)))
         opened why at room =
             both Opens (ltb (length f) (8 + four_at f 4)) _ _
             (λ short.

@@ -1,4 +1,5 @@
 -- The reader takes the files that the grammar spells and no others, and the fault that it tells stands first: `specs/Judged.antt`. Assumes nothing.
+use Rattle.std.specs.Prelude.{Option, Some, None, Result, Ok, Err}
 use mathlib.Core.Path.{◌≡◌, refl, sym, ap, ◌∙◌, subst}
 use mathlib.Core.Bool.{true}
 use mathlib.Core.List.{List, [], ◌∷◌, ◌++◌}
@@ -20,11 +21,6 @@ use Rattle.smf.specs.Cues.{Entry, Song, tempo_after, too_late, song_from, song_i
 use Rattle.smf.specs.Promised.{Timed, timed_of, tempo_behind, tempo_sum, sounds_behind}
 use Rattle.smf.specs.declared.faults.Reason.TheVariants.{LateFrame}
 use Rattle.smf.specs.declared.faults.Fault.{Fault}
-use Rattle.smf.specs.declared.chunks.Opening.{Opening}
-use Rattle.smf.specs.declared.chunks.Opening.TheVariants as opening
-use Rattle.smf.specs.declared.chunks.Found.{Found}
-use Rattle.smf.specs.declared.chunks.Found.TheVariants as found
-use Rattle.smf.specs.declared.chunks.Verdict.TheVariants.{Good, Broken}
 use Rattle.smf.proofs.Inside.{both}
 use Rattle.smf.proofs.Promised.{promised}
 use Rattle.song_grammar.specs.Grammar.{Chunk, MTrk, Header, Aliens, File}
@@ -50,8 +46,8 @@ octets (b ∷ f) h zero = h.0
 octets (b ∷ f) h (suc i) = octets f h.1 i
 
 -- ---- a song is good where its events are and none of them is late
-sings : (rate division : ℕ) (past : List Timed) (es : Events) → last_of es ≡ Good → Each InRange (sounds_behind rate division past (timed_of es))
-    → (song_from rate division (tempo_behind past) (tempo_sum past) es).verdict ≡ Good
+sings : (rate division : ℕ) (past : List Timed) (es : Events) → last_of es ≡ (Ok tt) → Each InRange (sounds_behind rate division past (timed_of es))
+    → (song_from rate division (tempo_behind past) (tempo_sum past) es).verdict ≡ Ok tt
 unfolding song_from last_of timed_of sounds_behind tempo_sum tempo_behind frame_at
 sings rate division past (over v) e h = e
 sings rate division past (then ticks m next rest) e h =
@@ -60,11 +56,11 @@ sings rate division past (then ticks m next rest) e h =
     let early = k.0 in
     rw early (sings rate division (t ∷ past) rest e k.1)
 
-sung : (rate division tempo sum : ℕ) (es : Events) → (song_from rate division tempo sum es).verdict ≡ Good → last_of es ≡ Good
+sung : (rate division tempo sum : ℕ) (es : Events) → (song_from rate division tempo sum es).verdict ≡ (Ok tt) → last_of es ≡ Ok tt
 unfolding song_from last_of
 sung rate division tempo sum (over v) = λ e. e
 sung rate division tempo sum (then ticks m next rest) =
-    both (λ (s : Song). s.verdict ≡ Good → last_of rest ≡ Good) (too_late (frame_at rate division (sum + ticks * tempo)) m) _ _
+    both (λ (s : Song). s.verdict ≡ (Ok tt) → last_of rest ≡ Ok tt) (too_late (frame_at rate division (sum + ticks * tempo)) m) _ _
     (λ _ e. let z : ◌≡◌ {A = ℕ} 0 1 = cc in absurd (omega arith))
     (λ _ e. sung rate division (tempo_after tempo m) (sum + ticks * tempo) rest e)
 
@@ -73,11 +69,11 @@ module _ (rate : ℕ) (f : List ℕ) (b : Bytes f) where
   taken : (division : ℕ) (ts : List Timed) → File f division ts → FileTaken f (octets f b) division ts
   taken division ts s = file_taken f (octets f b) s (whole_from f)
 
-  is_song : (division next : ℕ) → header_of f ≡ opening.Is division next → song_of rate f ≡ song_from rate division first_tempo 0 (events_of f next)
+  is_song : (division next : ℕ) → header_of f ≡ Ok (division, next) → song_of rate f ≡ song_from rate division first_tempo 0 (events_of f next)
   unfolding song_of
   is_song division next e = ap (song_in rate f) e
 
-  good_from : Grammatical rate f → (song_of rate f).verdict ≡ Good
+  good_from : Grammatical rate f → (song_of rate f).verdict ≡ Ok tt
   unfolding tempo_sum tempo_behind
   good_from g =
       let t = taken g.division g.events g.spelt in
@@ -92,18 +88,18 @@ module _ (rate : ℕ) (f : List ℕ) (b : Bytes f) where
       ∙ ap (sounds_behind rate g.division []) t.events
 
   -- ---- a good file is spelt
-  no_good : {A : Type 0} {why : Fault} → Broken why ≡ Good → A
+  no_good : {A : Type 0} {why : Fault} → ◌≡◌ {A = Result (Unit {0}) Fault} (Err why) (Ok tt) → A
   no_good {why = why} e = let z : ◌≡◌ {A = ℕ} 0 1 = cc in absurd (omega arith)
 
   -- nothing but chunks that are skipped stands behind the track
-  skipped : (at : ℕ) → at ≤ length f → rest_at f at ≡ Good → Spelt f Aliens at (length f)
+  skipped : (at : ℕ) → at ≤ length f → rest_at f at ≡ (Ok tt) → Spelt f Aliens at (length f)
   unfolding rest_at track_at
   skipped at room = go (track_from (length f) f at) (search f (octets f b) (length f) at room (omega arith))
     where
-      go : (r : Found) → Searched f (octets f b) at r → no_second r ≡ Good → Spelt f Aliens at (length f)
-      go (found.Track place) s e = no_good e
-      go found.Nothing s e = s
-      go (found.Broken why) s e = no_good e
+      go : (r : Result (Option ℕ) Fault) → Searched f (octets f b) at r → no_second r ≡ (Ok tt) → Spelt f Aliens at (length f)
+      go (Ok (Some place)) s e = no_good e
+      go (Ok None) s e = s
+      go (Err why) s e = no_good e
 
   -- the track chunk at a place
   module _ (place : ℕ) (type : From f place MTrk (place + 4)) where
@@ -124,7 +120,7 @@ module _ (rate : ℕ) (f : List ℕ) (b : Bytes f) where
 
   module _ (division next : ℕ) (head : Spelt f (λ (bytes : List ℕ). Header bytes division) 0 next) where
     abbrev Spells : Events → Type 0
-    Spells es = last_of es ≡ Good → File f division (timed_of es)
+    Spells es = last_of es ≡ (Ok tt) → File f division (timed_of es)
 
     track_spelt : (place : ℕ) → Spelt f Aliens next place → From f place MTrk (place + 4) → Spells (track_of f place)
     unfolding track_of last_of
@@ -146,18 +142,18 @@ module _ (rate : ℕ) (f : List ℕ) (b : Bytes f) where
     unfolding events_of track_at last_of
     spelt room = go (track_from (length f) f next) (search f (octets f b) (length f) next room (omega arith))
       where
-        go : (r : Found) → Searched f (octets f b) next r → Spells (events_in f r)
-        go (found.Track place) (others, type, inside) = track_spelt place others type
-        go found.Nothing s = λ e. no_good e
-        go (found.Broken why) s = λ e. no_good e
+        go : (r : Result (Option ℕ) Fault) → Searched f (octets f b) next r → Spells (events_in f r)
+        go (Ok (Some place)) (others, type, inside) = track_spelt place others type
+        go (Ok None) s = λ e. no_good e
+        go (Err why) s = λ e. no_good e
 
-  good_to : (song_of rate f).verdict ≡ Good → Grammatical rate f
+  good_to : (song_of rate f).verdict ≡ (Ok tt) → Grammatical rate f
   unfolding song_of
   good_to good = go (header_of f) refl (opens f (octets f b)) good
     where
-      go : (o : Opening) → header_of f ≡ o → Opens f (octets f b) o → (song_in rate f o).verdict ≡ Good → Grammatical rate f
-      go (opening.Broken why) is h e = no_good e
-      go (opening.Is division next) is h e = record {
+      go : (o : Result (ℕ × ℕ) Fault) → header_of f ≡ o → Opens f (octets f b) o → (song_in rate f o).verdict ≡ (Ok tt) → Grammatical rate f
+      go (Err why) is h e = no_good e
+      go (Ok (division, next)) is h e = record {
         division = division;
         events = timed_of (events_of f next);
         spelt = spelt division next h.0 h.1 (sung rate division first_tempo 0 (events_of f next) e);
@@ -210,23 +206,23 @@ module _ (rate : ℕ) (f : List ℕ) (b : Bytes f) where
     inside = room;
   })
 
-  behind_all : (at : ℕ) → Spelt f OpenedSong 0 at → at ≤ length f → (why : Fault) → rest_at f at ≡ Broken why → FirstFault f why.at
+  behind_all : (at : ℕ) → Spelt f OpenedSong 0 at → at ≤ length f → (why : Fault) → rest_at f at ≡ Err why → FirstFault f why.at
   unfolding rest_at track_at
   behind_all at head room why = go (track_from (length f) f at) (search f (octets f b) (length f) at room (omega arith))
     where
-      go : (r : Found) → Searched f (octets f b) at r → no_second r ≡ Broken why → FirstFault f why.at
-      go (found.Track place) (others, type, inside) e =
+      go : (r : Result (Option ℕ) Fault) → Searched f (octets f b) at r → no_second r ≡ Err why → FirstFault f why.at
+      go (Ok (Some place)) (others, type, inside) e =
           let there = ap (λ (w : Fault). w.at) (fault_is e) in
           at_chunk at place head others (omega arith) why (omega arith) (omega arith) (inl (omega arith))
-      go found.Nothing s e = let z : ◌≡◌ {A = ℕ} 0 1 = cc in absurd (omega arith)
-      go (found.Broken w) s e = subst (λ (w : Fault). FirstFault f w.at) (fault_is e) (behind_head at head w s)
+      go (Ok None) s e = let z : ◌≡◌ {A = ℕ} 0 1 = cc in absurd (omega arith)
+      go (Err w) s e = subst (λ (w : Fault). FirstFault f w.at) (fault_is e) (behind_head at head w s)
 
   module _ (division next : ℕ) (head : Spelt f (λ (bytes : List ℕ). Header bytes division) 0 next) where
     opened : Spelt f OpenedSong 0 next
     opened = record { bytes = head.bytes; is = begun head.is; there = head.there }
 
     abbrev Stopped : Events → Type 0
-    Stopped es = (why : Fault) → (song_from rate division first_tempo 0 es).verdict ≡ Broken why → FirstFault f why.at
+    Stopped es = (why : Fault) → (song_from rate division first_tempo 0 es).verdict ≡ Err why → FirstFault f why.at
 
     in_track : (place : ℕ) → Spelt f Aliens next place → (type : From f place MTrk (place + 4)) → (why : Fault) → Breaks f (full place type) 0 (place + 8) why → FirstFault f why.at
     in_track place others type why (inl (c, room, plain)) = stands why (record {
@@ -286,36 +282,36 @@ module _ (rate : ℕ) (f : List ℕ) (b : Bytes f) where
     unfolding events_of track_at song_from
     stopped room = go (track_from (length f) f next) (search f (octets f b) (length f) next room (omega arith))
       where
-        go : (r : Found) → Searched f (octets f b) next r → Stopped (events_in f r)
-        go (found.Track place) (others, type, inside) = track_stopped place others type inside
-        go found.Nothing s = λ why e.
+        go : (r : Result (Option ℕ) Fault) → Searched f (octets f b) next r → Stopped (events_in f r)
+        go (Ok (Some place)) (others, type, inside) = track_stopped place others type inside
+        go (Ok None) s = λ why e.
             let there = ap (λ (w : Fault). w.at) (fault_is e) in
             at_chunk next (length f) opened s (omega arith) why (omega arith) (omega arith) (inr (sym there))
-        go (found.Broken w) s = λ why e. subst (λ (w : Fault). FirstFault f w.at) (fault_is e) (behind_head next opened w s)
+        go (Err w) s = λ why e. subst (λ (w : Fault). FirstFault f w.at) (fault_is e) (behind_head next opened w s)
 
-  first : (why : Fault) → (song_of rate f).verdict ≡ Broken why → FirstFault f why.at
+  first : (why : Fault) → (song_of rate f).verdict ≡ Err why → FirstFault f why.at
   unfolding song_of
   first why = go (header_of f) (opens f (octets f b))
     where
-      go : (o : Opening) → Opens f (octets f b) o → (song_in rate f o).verdict ≡ Broken why → FirstFault f why.at
-      go (opening.Broken w) h e = subst (λ (w : Fault). FirstFault f w.at) (fault_is e) (stands w h)
-      go (opening.Is division next) h e = stopped division next h.0 h.1 why e
+      go : (o : Result (ℕ × ℕ) Fault) → Opens f (octets f b) o → (song_in rate f o).verdict ≡ Err why → FirstFault f why.at
+      go (Err w) h e = subst (λ (w : Fault). FirstFault f w.at) (fault_is e) (stands w h)
+      go (Ok (division, next)) h e = stopped division next h.0 h.1 why e
 
 takes : (f : List ℕ) (rate room : ℕ) → (b : Bytes f) → good_rate rate ≡ true → (g : Grammatical rate f)
     → 2 * length (sounds_behind rate g.division [] g.events) ≤ room → cues_number (counted_judged f rate room) ≡ 0
 takes f rate room b good g fits =
     (promised.song_rows f rate room).done_row good (good_from rate f b g) (subst (λ (l : List Entry). 2 * length l ≤ room) (sym (listed rate f b g)) fits)
 
-only_late : (rate : ℕ) (f : List ℕ) → Bytes f → (division : ℕ) (ts : List Timed) → File f division ts → (why : Fault) → (song_of rate f).verdict ≡ Broken why
+only_late : (rate : ℕ) (f : List ℕ) → Bytes f → (division : ℕ) (ts : List Timed) → File f division ts → (why : Fault) → (song_of rate f).verdict ≡ Err why
     → refusal_of why.reason ≡ 14
 unfolding refusal_of
 only_late rate f b division ts s why e =
     let t = taken rate f b division ts s in
     go t.next (good_or_late rate division first_tempo 0 (events_of f t.next) t.good) (sym (ap (λ (s : Song). s.verdict) (is_song rate f b division t.next t.opens)) ∙ e)
   where
-    go : (next : ℕ) → ((song_from rate division first_tempo 0 (events_of f next)).verdict ≡ Good)
-        ⊎ ((at : ℕ) × ((song_from rate division first_tempo 0 (events_of f next)).verdict ≡ Broken (fault_at LateFrame at)))
-        → (song_from rate division first_tempo 0 (events_of f next)).verdict ≡ Broken why → refusal_of why.reason ≡ 14
+    go : (next : ℕ) → ((song_from rate division first_tempo 0 (events_of f next)).verdict ≡ Ok tt)
+        ⊎ ((at : ℕ) × ((song_from rate division first_tempo 0 (events_of f next)).verdict ≡ Err (fault_at LateFrame at)))
+        → (song_from rate division first_tempo 0 (events_of f next)).verdict ≡ Err why → refusal_of why.reason ≡ 14
     go next (inl good) broken = let z : ◌≡◌ {A = ℕ} 0 1 = cc in absurd (omega arith)
     go next (inr (at, late)) broken = ap (λ (w : Fault). refusal_of w.reason) (sym (fault_is (sym late ∙ broken)))
 

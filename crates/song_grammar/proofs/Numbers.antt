@@ -1,4 +1,5 @@
 -- Which numbers are told of which files: 13 of another format and of a SMPTE division, 14 of what is late. Assumes nothing.
+use Rattle.std.specs.Prelude.{Option, Some, None, Result, Ok, Err}
 use mathlib.Core.Path.{◌≡◌, refl, sym, ap, ◌∙◌, subst}
 use mathlib.Core.Bool.{Bool, true, false, cond, not}
 use mathlib.Core.List.{List, [], ◌∷◌, ◌++◌, append_assoc}
@@ -20,11 +21,6 @@ use Rattle.smf.specs.declared.faults.Reason.TheVariants.{Missing, NoHeader, Shor
 use Rattle.smf.specs.declared.faults.Fault.{Fault}
 use Rattle.smf.specs.declared.events.Event.{Event}
 use Rattle.smf.specs.declared.events.Event.TheVariants.{Note, Tempo, Other}
-use Rattle.smf.specs.declared.chunks.Opening.{Opening}
-use Rattle.smf.specs.declared.chunks.Opening.TheVariants as opening
-use Rattle.smf.specs.declared.chunks.Found.{Found}
-use Rattle.smf.specs.declared.chunks.Found.TheVariants as found
-use Rattle.smf.specs.declared.chunks.Verdict.TheVariants.{Good, Broken}
 use Rattle.smf.proofs.Inside.{both}
 use Rattle.song_grammar.specs.First.{OtherKind, Late}
 use Rattle.song_grammar.proofs.Wholes.{last_of, Octets}
@@ -45,12 +41,12 @@ not_late frame (Note key) l h = (le-ltb _ _ h.0, h.1)
 not_late frame (Tempo new) l h = (refl, h)
 not_late frame Other l h = (refl, h)
 
-pub good_or_late : (rate division tempo sum : ℕ) (es : Events) → last_of es ≡ Good
-    → ((song_from rate division tempo sum es).verdict ≡ Good) ⊎ ((at : ℕ) × ((song_from rate division tempo sum es).verdict ≡ Broken (fault_at LateFrame at)))
+pub good_or_late : (rate division tempo sum : ℕ) (es : Events) → last_of es ≡ Ok tt
+    → ((song_from rate division tempo sum es).verdict ≡ Ok tt) ⊎ ((at : ℕ) × ((song_from rate division tempo sum es).verdict ≡ Err (fault_at LateFrame at)))
 unfolding last_of song_from
 good_or_late rate division tempo sum (over v) e = inl e
 good_or_late rate division tempo sum (then ticks m next rest) e =
-    both (λ (s : Song). (s.verdict ≡ Good) ⊎ ((at : ℕ) × (s.verdict ≡ Broken (fault_at LateFrame at)))) (too_late (frame_at rate division (sum + ticks * tempo)) m) _ _
+    both (λ (s : Song). (s.verdict ≡ Ok tt) ⊎ ((at : ℕ) × (s.verdict ≡ Err (fault_at LateFrame at)))) (too_late (frame_at rate division (sum + ticks * tempo)) m) _ _
     (λ _. inr (_, refl))
     (λ _. good_or_late rate division (tempo_after tempo m) (sum + ticks * tempo) rest e)
 
@@ -60,11 +56,11 @@ module _ (f : List ℕ) (octets : Octets f) where
   Kind why = (refusal_of why.reason ≡ 13) ↔ OtherKind f why.at
 
   -- the header's faults; a good one has 14 bytes
-  abbrev Kinds : Opening → Type 0
-  Kinds (opening.Is division next) = 14 ≤ next
-  Kinds (opening.Broken why) = Kind why × (refusal_of why.reason ≢ 14)
+  abbrev Kinds : Result (ℕ × ℕ) Fault → Type 0
+  Kinds (Ok (division, next)) = 14 ≤ next
+  Kinds (Err why) = Kind why × (refusal_of why.reason ≢ 14)
 
-  neither : (why : Fault) → Plain why → (OtherKind f why.at → ⊥) → Kinds (opening.Broken why)
+  neither : (why : Fault) → Plain why → (OtherKind f why.at → ⊥) → Kinds (Err why)
   neither why plain other = ((λ e. absurd (omega arith), λ k. absurd (other k)), λ e. omega arith)
 
   elsewhere : (k : ℕ) → k ≢ 9 → k ≢ 13 → OtherKind f k → ⊥
@@ -79,7 +75,7 @@ module _ (f : List ℕ) (octets : Octets f) where
   no_ticks z (inl (at, room)) = omega arith
   no_ticks z (inr (at, room, high)) = omega (arith, two_number f octets 12 0 z)
 
-  missing : Kinds (opening.Broken (fault_at Missing (length f)))
+  missing : Kinds (Err (fault_at Missing (length f)))
   unfolding refusal_of
   missing = neither (fault_at Missing (length f)) refl past_the_end
 
@@ -110,10 +106,10 @@ module _ (f : List ℕ) (octets : Octets f) where
       (λ six. kind_fields (four_at f 4) (ltb-false (four_at f 4) 6 six)))))
 
   -- ---- behind the header: 12 from chunks
-  abbrev PlainFound : Found → Type 0
-  PlainFound (found.Track place) = Unit {0}
-  PlainFound found.Nothing = Unit {0}
-  PlainFound (found.Broken why) = Plain why
+  abbrev PlainFound : Result (Option ℕ) Fault → Type 0
+  PlainFound (Ok (Some place)) = Unit {0}
+  PlainFound (Ok None) = Unit {0}
+  PlainFound (Err why) = Plain why
 
   plain_search : (n at : ℕ) → PlainFound (track_from n f at)
   unfolding track_from chunk_at refusal_of
@@ -126,19 +122,19 @@ module _ (f : List ℕ) (octets : Octets f) where
       (λ _. both PlainFound (ltb (length f) (at + 8)) _ _ (λ _. refl)
       (λ _. both PlainFound (ltb (length f) (at + 8 + four_at f (at + 4))) _ _ (λ _. refl) (λ _. plain_search n (at + 8 + four_at f (at + 4))))))))
 
-  plain_rest : (at : ℕ) (why : Fault) → rest_at f at ≡ Broken why → Plain why
+  plain_rest : (at : ℕ) (why : Fault) → rest_at f at ≡ Err why → Plain why
   unfolding rest_at track_at refusal_of
   plain_rest at why = go (track_from (length f) f at) (plain_search (length f) at)
     where
-      go : (r : Found) → PlainFound r → no_second r ≡ Broken why → Plain why
-      go (found.Track place) s e = subst Plain (fault_is e) refl
-      go found.Nothing s e = let z : ◌≡◌ {A = ℕ} 0 1 = cc in absurd (omega arith)
-      go (found.Broken w) s e = subst Plain (fault_is e) s
+      go : (r : Result (Option ℕ) Fault) → PlainFound r → no_second r ≡ Err why → Plain why
+      go (Ok (Some place)) s e = subst Plain (fault_is e) refl
+      go (Ok None) s e = let z : ◌≡◌ {A = ℕ} 0 1 = cc in absurd (omega arith)
+      go (Err w) s e = subst Plain (fault_is e) s
 
   -- what is told of the events that stand behind a header is 12, or what the track tells
   module _ (rate division : ℕ) (why : Fault) where
     abbrev Told : Events → Type 0
-    Told es = (song_from rate division first_tempo 0 es).verdict ≡ Broken why
+    Told es = (song_from rate division first_tempo 0 es).verdict ≡ Err why
 
     abbrev full : ℕ → ℕ
     full place = place + 8 + four_at f (place + 4)
@@ -160,16 +156,16 @@ module _ (f : List ℕ) (octets : Octets f) where
     in_track next room = go (track_from (length f) f next) (plain_search (length f) next) (search f octets (length f) next room (omega arith))
       where
         found_track : (place : ℕ) → Spelt f Aliens next place → From f place MTrk (place + 4) → (b : Bool) → ltb (length f) (place + 8) ≡ b
-            → Told (cond b (over (Broken (fault_at Missing (length f)))) (events_from (length f) f (full place) 0 (place + 8)))
+            → Told (cond b (over (Err (fault_at Missing (length f)))) (events_from (length f) f (full place) 0 (place + 8)))
             → Plain why ⊎ Entered next
         found_track place others type true b e = inl (subst Plain (fault_is e) refl)
         found_track place others type false b e = inr (record { place = place; others = others; type = type; room = ltb-false (length f) (place + 8) b; told = e })
 
-        go : (r : Found) → PlainFound r → Searched f octets next r → Told (events_in f r)
+        go : (r : Result (Option ℕ) Fault) → PlainFound r → Searched f octets next r → Told (events_in f r)
             → Plain why ⊎ Entered next
-        go (found.Track place) p (others, type, inside) = found_track place others type (ltb (length f) (place + 8)) refl
-        go found.Nothing p s = λ e. inl (subst Plain (fault_is e) refl)
-        go (found.Broken w) p s = λ e. inl (subst Plain (fault_is e) p)
+        go (Ok (Some place)) p (others, type, inside) = found_track place others type (ltb (length f) (place + 8)) refl
+        go (Ok None) p s = λ e. inl (subst Plain (fault_is e) refl)
+        go (Err w) p s = λ e. inl (subst Plain (fault_is e) p)
 
     not_other : (next : ℕ) → next ≤ length f → Told (events_of f next) → refusal_of why.reason ≢ 13
     not_other next room e = go (in_track next room e)
@@ -190,18 +186,18 @@ module _ (f : List ℕ) (octets : Octets f) where
       pub room : why.at + 1 ≤ length f
       pub late : Each InRange (sounds_behind rate division past events) → ⊥
 
-    twelve : {A : Type 0} {w : Fault} → Plain w → Broken w ≡ Broken why → A
+    twelve : {A : Type 0} {w : Fault} → Plain w → ◌≡◌ {A = Result (Unit {0}) Fault} (Err w) (Err why) → A
     twelve plain e = let same = ap (λ (v : Fault). refusal_of v.reason) (fault_is e) in absurd (omega arith)
 
     late_track : (past : List Timed) (running at : ℕ) (es : Events) → Tracked f full running at es
-        → (song_from rate division (tempo_behind past) (tempo_sum past) es).verdict ≡ Broken why → LateTrack past running at
+        → (song_from rate division (tempo_behind past) (tempo_sum past) es).verdict ≡ Err why → LateTrack past running at
     unfolding song_from tempo_sum tempo_behind sounds_behind frame_at
-    late_track past running at (over Good) t = λ e. let z : ◌≡◌ {A = ℕ} 0 1 = cc in absurd (omega arith)
-    late_track past running at (over (Broken w)) (inl (c, room, plain)) = λ e. twelve plain e
-    late_track past running at (over (Broken w)) (inr c) = λ e. twelve (plain_rest full w c.behind) e
+    late_track past running at (over (Ok done)) t = λ e. let z : ◌≡◌ {A = ℕ} 0 1 = cc in absurd (omega arith)
+    late_track past running at (over (Err w)) (inl (c, room, plain)) = λ e. twelve plain e
+    late_track past running at (over (Err w)) (inr c) = λ e. twelve (plain_rest full w c.behind) e
     late_track past running at (then ticks m next rest) (status, s, room, more) =
         let t : Timed = record { delta = ticks; event = m } in
-        both (λ (song : Song). song.verdict ≡ Broken why → LateTrack past running at) (too_late (frame_at rate division (tempo_sum past + ticks * tempo_behind past)) m) _ _
+        both (λ (song : Song). song.verdict ≡ Err why → LateTrack past running at) (too_late (frame_at rate division (tempo_sum past + ticks * tempo_behind past)) m) _ _
         (λ late e.
         let last = ap (λ (w : Fault). w.at) (fault_is e) in
         let long = from_length f at s.bytes next s.there in
@@ -228,7 +224,7 @@ module _ (f : List ℕ) (octets : Octets f) where
           late = λ h. r.late (not_late _ m _ h).1;
         })
 
-  pub fourteen : (rate : ℕ) (why : Fault) → (song_of rate f).verdict ≡ Broken why → refusal_of why.reason ≡ 14 → Late rate f why.at
+  pub fourteen : (rate : ℕ) (why : Fault) → (song_of rate f).verdict ≡ Err why → refusal_of why.reason ≡ 14 → Late rate f why.at
   unfolding song_of tempo_sum tempo_behind
   fourteen rate why told number = go (header_of f) kind_header (opens f octets) told
     where
@@ -254,24 +250,24 @@ module _ (f : List ℕ) (octets : Octets f) where
                 l.room;
           }
 
-      go : (o : Opening) → Kinds o → Opens f octets o → (song_in rate f o).verdict ≡ Broken why → Late rate f why.at
-      go (opening.Broken w) k s e = absurd (k.1 (ap (λ (v : Fault). refusal_of v.reason) (fault_is e) ∙ number))
-      go (opening.Is division next) k s e = in_file division next s.0 (in_track rate division why next s.1 e)
+      go : (o : Result (ℕ × ℕ) Fault) → Kinds o → Opens f octets o → (song_in rate f o).verdict ≡ Err why → Late rate f why.at
+      go (Err w) k s e = absurd (k.1 (ap (λ (v : Fault). refusal_of v.reason) (fault_is e) ∙ number))
+      go (Ok (division, next)) k s e = in_file division next s.0 (in_track rate division why next s.1 e)
 
-  pub thirteen : (rate : ℕ) (why : Fault) → (song_of rate f).verdict ≡ Broken why → Kind why
+  pub thirteen : (rate : ℕ) (why : Fault) → (song_of rate f).verdict ≡ Err why → Kind why
   unfolding song_of
   thirteen rate why = go (header_of f) kind_header (opens f octets)
     where
-      far : (division next : ℕ) → next ≤ length f → 14 ≤ next → (song_from rate division first_tempo 0 (events_of f next)).verdict ≡ Broken why → why.at < length f → 14 ≤ why.at
+      far : (division next : ℕ) → next ≤ length f → 14 ≤ next → (song_from rate division first_tempo 0 (events_of f next)).verdict ≡ Err why → why.at < length f → 14 ≤ why.at
       far division next room long e inside = omega (arith, (events_told why.at f f (λ i h. refl) inside inside octets rate division why refl next room e).0)
 
-      no_kind : (division next : ℕ) → next ≤ length f → 14 ≤ next → (song_from rate division first_tempo 0 (events_of f next)).verdict ≡ Broken why → OtherKind f why.at → ⊥
+      no_kind : (division next : ℕ) → next ≤ length f → 14 ≤ next → (song_from rate division first_tempo 0 (events_of f next)).verdict ≡ Err why → OtherKind f why.at → ⊥
       no_kind division next room long e (inl (at, inside)) = omega (arith, far division next room long e (omega arith))
       no_kind division next room long e (inr (at, inside, high)) = omega (arith, far division next room long e (omega arith))
 
-      go : (o : Opening) → Kinds o → Opens f octets o → (song_in rate f o).verdict ≡ Broken why → Kind why
-      go (opening.Broken w) k s e = subst Kind (fault_is e) k.0
-      go (opening.Is division next) k s e = (
+      go : (o : Result (ℕ × ℕ) Fault) → Kinds o → Opens f octets o → (song_in rate f o).verdict ≡ Err why → Kind why
+      go (Err w) k s e = subst Kind (fault_is e) k.0
+      go (Ok (division, next)) k s e = (
         λ z. absurd (not_other rate division why next s.1 e z),
         λ other. absurd (no_kind division next s.1 k e other),
       )

@@ -1,4 +1,5 @@
 -- Files with the same bytes up to a fault are told the same fault. Assumes nothing.
+use Rattle.std.specs.Prelude.{Option, Some, None, Result, Ok, Err}
 use mathlib.Core.Path.{◌≡◌, refl, sym, ap, ◌∙◌, subst}
 use mathlib.Core.Bool.{Bool, true, false, cond, not}
 use mathlib.Core.List.{List}
@@ -22,12 +23,6 @@ use Rattle.smf.specs.declared.faults.Reason.TheVariants.{Missing, NoHeader, Shor
 use Rattle.smf.specs.declared.faults.Fault.{Fault}
 use Rattle.smf.specs.declared.events.Step.{Step}
 use Rattle.smf.specs.declared.events.Step.TheVariants as step
-use Rattle.smf.specs.declared.chunks.Opening.{Opening}
-use Rattle.smf.specs.declared.chunks.Opening.TheVariants as opening
-use Rattle.smf.specs.declared.chunks.Found.{Found}
-use Rattle.smf.specs.declared.chunks.Found.TheVariants as found
-use Rattle.smf.specs.declared.chunks.Verdict.{Verdict}
-use Rattle.smf.specs.declared.chunks.Verdict.TheVariants.{Broken}
 use Rattle.smf.proofs.Inside.{both, step-ends}
 use Rattle.song_grammar.proofs.Segments.{from_length}
 use Rattle.song_grammar.proofs.Wholes.{Octets}
@@ -37,20 +32,20 @@ use Rattle.song_grammar.proofs.Chunks.{Searched, search, Opens, opens}
 use Rattle.song_grammar.proofs.Alike.{same_cond, InStep, same_step}
 
 module _ (k : ℕ) where
-  abbrev InOpening : Opening → Type 0
-  InOpening (opening.Is division next) = next ≤ suc k
-  InOpening (opening.Broken why) = why.at ≤ k
+  abbrev InOpening : Result (ℕ × ℕ) Fault → Type 0
+  InOpening (Ok (division, next)) = next ≤ suc k
+  InOpening (Err why) = why.at ≤ k
 
-  abbrev InFound : ℕ → Found → Type 0
-  InFound size (found.Track place) = place + 4 ≤ suc k
-  InFound size found.Nothing = size ≤ k
-  InFound size (found.Broken why) = why.at ≤ k
+  abbrev InFound : ℕ → Result (Option ℕ) Fault → Type 0
+  InFound size (Ok (Some place)) = place + 4 ≤ suc k
+  InFound size (Ok None) = size ≤ k
+  InFound size (Err why) = why.at ≤ k
 
-pub fault_is : {v w : Fault} → Broken v ≡ Broken w → v ≡ w
+pub fault_is : {v w : Fault} → ◌≡◌ {A = Result (Unit {0}) Fault} (Err v) (Err w) → v ≡ w
 fault_is e = cc
 
-carried : (why : Fault) (b : Bool) (v : Verdict) (es : List Entry) (y y' : Song) → (y.verdict ≡ Broken why → y'.verdict ≡ Broken why)
-    → (cond b (empty_with v) (entries_first es y)).verdict ≡ Broken why → (cond b (empty_with v) (entries_first es y')).verdict ≡ Broken why
+carried : (why : Fault) (b : Bool) (v : Result (Unit {0}) Fault) (es : List Entry) (y y' : Song) → (y.verdict ≡ Err why → y'.verdict ≡ Err why)
+    → (cond b (empty_with v) (entries_first es y)).verdict ≡ Err why → (cond b (empty_with v) (entries_first es y')).verdict ≡ Err why
 carried why true v es y y' more e = e
 carried why false v es y y' more e = more e
 
@@ -75,21 +70,21 @@ module _ (k : ℕ) (f g : List ℕ) (same : (i : ℕ) → i ≤ k → byte_at g 
           rw (le-ltb (length g) x (omega (arith, reach up h))) (is up h)
 
   -- ---- the header: what is read from a place on, if it is read by k, reaches that place, and is the same
-  Stage : ℕ → Opening → Opening → Type 0
+  Stage : ℕ → Result (ℕ × ℕ) Fault → Result (ℕ × ℕ) Fault → Type 0
   Stage y o o' = (InOpening k o → y ≤ suc k) × (InOpening k o → o' ≡ o)
 
-  stage_up_to : (y x : ℕ) (o o' : Opening) → y ≤ x → Stage x o o' → Stage y (up_to f x o) (up_to g x o')
+  stage_up_to : (y x : ℕ) (o o' : Result (ℕ × ℕ) Fault) → y ≤ x → Stage x o o' → Stage y (up_to f x o) (up_to g x o')
   unfolding Stage
   stage_up_to y x o o' less s = (
-    both (λ (r : Opening). InOpening k r → y ≤ suc k) (ltb (length f) x) _ _ (λ _ h. absurd (omega arith)) (λ _ h. omega (arith, s.0 h)),
+    both (λ (r : Result (ℕ × ℕ) Fault). InOpening k r → y ≤ suc k) (ltb (length f) x) _ _ (λ _ h. absurd (omega arith)) (λ _ h. omega (arith, s.0 h)),
     has_both (InOpening k) x _ _ o o' (λ h. h) (λ _. s.0) (λ _. s.1),
   )
 
-  stage_unless : (y : ℕ) (b b' : Bool) (why : Reason) (at : ℕ) (o o' : Opening) → y ≤ suc at → (y ≤ suc k → b' ≡ b) → (b ≡ false → Stage y o o')
+  stage_unless : (y : ℕ) (b b' : Bool) (why : Reason) (at : ℕ) (o o' : Result (ℕ × ℕ) Fault) → y ≤ suc at → (y ≤ suc k → b' ≡ b) → (b ≡ false → Stage y o o')
       → Stage y (unless b why at o) (unless b' why at o')
   unfolding Stage
   stage_unless y b b' why at o o' less test s =
-      let reach = both (λ (r : Opening). InOpening k r → y ≤ suc k) b (opening.Broken (fault_at why at)) o (λ _ h. omega arith) (λ e h. (s e).0 h) in
+      let reach = both (λ (r : Result (ℕ × ℕ) Fault). InOpening k r → y ≤ suc k) b (Err (fault_at why at)) o (λ _ h. omega arith) (λ e h. (s e).0 h) in
       (reach, λ h. same_cond (InOpening k) b b' _ _ _ _ (test (reach h)) h (λ _ _. refl) (λ e h'. (s e).1 h'))
 
   stage_fields : (size : ℕ) → 6 ≤ size → Stage 8 (fields_of f size) (fields_of g size)
@@ -103,7 +98,7 @@ module _ (k : ℕ) (f g : List ℕ) (same : (i : ℕ) → i ≤ k → byte_at g 
       (stage_unless 14 _ _ SmpteDivision 13 _ _ (omega arith) (λ r. ap (λ (n : ℕ). leb 0x8000 n) (same_two 12 r))
       (λ _. stage_unless 14 _ _ NoDivision 13 _ _ (omega arith) (λ r. ap (λ (n : ℕ). eqb n 0) (same_two 12 r))
       (λ _. stage_up_to 14 (8 + size) _ _ (omega arith)
-      (λ h. h, λ h. ap (λ (n : ℕ). opening.Is n (8 + size)) (same_two 12 (omega arith))))))))))
+      (λ h. h, λ h. ap (λ (n : ℕ). Ok (n, 8 + size)) (same_two 12 (omega arith))))))))))
 
   stage_header : Stage 0 (header_of f) (header_of g)
   unfolding header_of Stage
@@ -118,33 +113,33 @@ module _ (k : ℕ) (f g : List ℕ) (same : (i : ℕ) → i ≤ k → byte_at g 
 
   -- ---- chunks
   module _ (octets : Octets f) where
-    reach_search : (at : ℕ) → at ≤ length f → (r : Found) → Searched f octets at r → InFound k (length f) r → at ≤ k
-    reach_search at room (found.Track place) (s, type, inside) h = omega (arith, from_length f at s.bytes place s.there)
-    reach_search at room found.Nothing s h = omega arith
-    reach_search at room (found.Broken why) s h = omega (arith, from_length f at s.spelt.bytes s.start s.spelt.there, s.low)
+    reach_search : (at : ℕ) → at ≤ length f → (r : Result (Option ℕ) Fault) → Searched f octets at r → InFound k (length f) r → at ≤ k
+    reach_search at room (Ok (Some place)) (s, type, inside) h = omega (arith, from_length f at s.bytes place s.there)
+    reach_search at room (Ok None) s h = omega arith
+    reach_search at room (Err why) s h = omega (arith, from_length f at s.spelt.bytes s.start s.spelt.there, s.low)
 
     -- the chunk behind one that is passed
     module _ (n at : ℕ) (fuel : length f - at ≤ suc n) where
       abbrev behind : ℕ
       behind = at + 8 + four_at f (at + 4)
 
-      abbrev P : Found → Type 0
+      abbrev P : Result (Option ℕ) Fault → Type 0
       P = InFound k (length f)
 
       reach_behind : behind ≤ length f → P (track_from n f behind) → behind ≤ k
       reach_behind up h = reach_search behind up (track_from n f behind) (search f octets n behind up (omega arith)) h
 
-      reach_eight : P (cond (ltb (length f) behind) (found.Broken (fault_at Missing (length f))) (track_from n f behind)) → at + 8 ≤ suc k
-      reach_eight = both (λ (r : Found). P r → at + 8 ≤ suc k) (ltb (length f) behind) _ _ (λ _ h. absurd (omega arith)) (λ e h. omega (arith, reach_behind (ltb-false (length f) behind e) h))
+      reach_eight : P (cond (ltb (length f) behind) (Err (fault_at Missing (length f))) (track_from n f behind)) → at + 8 ≤ suc k
+      reach_eight = both (λ (r : Result (Option ℕ) Fault). P r → at + 8 ≤ suc k) (ltb (length f) behind) _ _ (λ _ h. absurd (omega arith)) (λ e h. omega (arith, reach_behind (ltb-false (length f) behind e) h))
 
-      reach_four : P (cond (eqb (four_at f at) header_type) (found.Broken (fault_at SecondHeader (at + 3)))
-          (cond (eqb (four_at f at) track_type) (found.Track at)
-          (cond (ltb (length f) (at + 8)) (found.Broken (fault_at Missing (length f)))
-          (cond (ltb (length f) behind) (found.Broken (fault_at Missing (length f))) (track_from n f behind))))) → at + 4 ≤ suc k
+      reach_four : P (cond (eqb (four_at f at) header_type) (Err (fault_at SecondHeader (at + 3)))
+          (cond (eqb (four_at f at) track_type) (Ok (Some at))
+          (cond (ltb (length f) (at + 8)) (Err (fault_at Missing (length f)))
+          (cond (ltb (length f) behind) (Err (fault_at Missing (length f))) (track_from n f behind))))) → at + 4 ≤ suc k
       reach_four =
-          both (λ (r : Found). P r → at + 4 ≤ suc k) (eqb (four_at f at) header_type) _ _ (λ _ h. omega arith)
-          (λ _. both (λ (r : Found). P r → at + 4 ≤ suc k) (eqb (four_at f at) track_type) _ _ (λ _ h. h)
-          (λ _. both (λ (r : Found). P r → at + 4 ≤ suc k) (ltb (length f) (at + 8)) _ _ (λ _ h. absurd (omega arith)) (λ _ h. omega (arith, reach_eight h))))
+          both (λ (r : Result (Option ℕ) Fault). P r → at + 4 ≤ suc k) (eqb (four_at f at) header_type) _ _ (λ _ h. omega arith)
+          (λ _. both (λ (r : Result (Option ℕ) Fault). P r → at + 4 ≤ suc k) (eqb (four_at f at) track_type) _ _ (λ _ h. h)
+          (λ _. both (λ (r : Result (Option ℕ) Fault). P r → at + 4 ≤ suc k) (ltb (length f) (at + 8)) _ _ (λ _ h. absurd (omega arith)) (λ _ h. omega (arith, reach_eight h))))
 
     same_search : (n n' at : ℕ) → at ≤ length f → length f - at ≤ n → length g - at ≤ n' → InFound k (length f) (track_from n f at) → track_from n' g at ≡ track_from n f at
     unfolding track_from chunk_at
@@ -167,39 +162,39 @@ module _ (k : ℕ) (f g : List ℕ) (same : (i : ℕ) → i ≤ k → byte_at g 
         h₁)
 
     -- behind a track
-    rest_low : (at : ℕ) → at ≤ length f → (why : Fault) → rest_at f at ≡ Broken why → at ≤ why.at
+    rest_low : (at : ℕ) → at ≤ length f → (why : Fault) → rest_at f at ≡ Err why → at ≤ why.at
     unfolding rest_at track_at
     rest_low at room why = go (track_from (length f) f at) (search f octets (length f) at room (omega arith))
       where
-        go : (r : Found) → Searched f octets at r → no_second r ≡ Broken why → at ≤ why.at
-        go (found.Track place) (s, type, inside) e = omega (arith, from_length f at s.bytes place s.there, ap (λ (w : Fault). w.at) (fault_is e))
-        go found.Nothing s e = let z : ◌≡◌ {A = ℕ} 0 1 = cc in absurd (omega arith)
-        go (found.Broken w) s e = omega (arith, from_length f at s.spelt.bytes s.start s.spelt.there, s.low, ap (λ (w : Fault). w.at) (fault_is e))
+        go : (r : Result (Option ℕ) Fault) → Searched f octets at r → no_second r ≡ Err why → at ≤ why.at
+        go (Ok (Some place)) (s, type, inside) e = omega (arith, from_length f at s.bytes place s.there, ap (λ (w : Fault). w.at) (fault_is e))
+        go (Ok None) s e = let z : ◌≡◌ {A = ℕ} 0 1 = cc in absurd (omega arith)
+        go (Err w) s e = omega (arith, from_length f at s.spelt.bytes s.start s.spelt.there, s.low, ap (λ (w : Fault). w.at) (fault_is e))
 
-    same_rest : (at : ℕ) → at ≤ length f → (why : Fault) → why.at ≤ k → rest_at f at ≡ Broken why → (at ≤ k) × (rest_at g at ≡ Broken why)
+    same_rest : (at : ℕ) → at ≤ length f → (why : Fault) → why.at ≤ k → rest_at f at ≡ Err why → (at ≤ k) × (rest_at g at ≡ Err why)
     unfolding rest_at track_at
     same_rest at room why by = go (track_from (length f) f at) refl (search f octets (length f) at room (omega arith))
       where
-        told : (r : Found) → track_from (length f) f at ≡ r → Searched f octets at r → InFound k (length f) r → no_second r ≡ Broken why
-            → (at ≤ k) × (no_second (track_from (length g) g at) ≡ Broken why)
+        told : (r : Result (Option ℕ) Fault) → track_from (length f) f at ≡ r → Searched f octets at r → InFound k (length f) r → no_second r ≡ Err why
+            → (at ≤ k) × (no_second (track_from (length g) g at) ≡ Err why)
         told r is s h e = (
           reach_search at room r s h,
           ap no_second (same_search (length f) (length g) at room (omega arith) (omega arith) (subst (InFound k (length f)) (sym is) h) ∙ is) ∙ e,
         )
 
-        go : (r : Found) → track_from (length f) f at ≡ r → Searched f octets at r → no_second r ≡ Broken why → (at ≤ k) × (no_second (track_from (length g) g at) ≡ Broken why)
-        go (found.Track place) is s e = told (found.Track place) is s (let p = ap (λ (w : Fault). w.at) (fault_is e) in omega arith) e
-        go found.Nothing is s e = let z : ◌≡◌ {A = ℕ} 0 1 = cc in absurd (omega arith)
-        go (found.Broken w) is s e = told (found.Broken w) is s (let p = ap (λ (w : Fault). w.at) (fault_is e) in omega arith) e
+        go : (r : Result (Option ℕ) Fault) → track_from (length f) f at ≡ r → Searched f octets at r → no_second r ≡ Err why → (at ≤ k) × (no_second (track_from (length g) g at) ≡ Err why)
+        go (Ok (Some place)) is s e = told (Ok (Some place)) is s (let p = ap (λ (w : Fault). w.at) (fault_is e) in omega arith) e
+        go (Ok None) is s e = let z : ◌≡◌ {A = ℕ} 0 1 = cc in absurd (omega arith)
+        go (Err w) is s e = told (Err w) is s (let p = ap (λ (w : Fault). w.at) (fault_is e) in omega arith) e
 
-    same_behind : (full next : ℕ) → next ≤ min full (length f) → (why : Fault) → why.at ≤ k → behind_track f full next ≡ Broken why
-        → (next ≤ k) × (behind_track g full next ≡ Broken why)
+    same_behind : (full next : ℕ) → next ≤ min full (length f) → (why : Fault) → why.at ≤ k → behind_track f full next ≡ Err why
+        → (next ≤ k) × (behind_track g full next ≡ Err why)
     unfolding behind_track
     same_behind full next room why by = go (ltb next (min full (length f))) refl (ltb (length f) full) refl
       where
         go : (a : Bool) → ltb next (min full (length f)) ≡ a → (b : Bool) → ltb (length f) full ≡ b
-            → cond a (Broken (fault_at BehindEndOfTrack next)) (cond b (Broken (fault_at Missing (length f))) (rest_at f full)) ≡ Broken why
-            → (next ≤ k) × (behind_track g full next ≡ Broken why)
+            → cond a (Err (fault_at BehindEndOfTrack next)) (cond b (Err (fault_at Missing (length f))) (rest_at f full)) ≡ Err why
+            → (next ≤ k) × (behind_track g full next ≡ Err why)
         go true ea b eb e =
             let l = ltb-true next (min full (length f)) ea in
             let p = ap (λ (w : Fault). w.at) (fault_is e) in
@@ -219,7 +214,7 @@ module _ (k : ℕ) (f g : List ℕ) (same : (i : ℕ) → i ≤ k → byte_at g 
     module _ (rate division full : ℕ) where
       -- a fault from a place on lies there or behind it
       track_reach : (n running at tempo sum : ℕ) → Running running → at ≤ min full (length f) → (why : Fault) → why.at ≤ k
-          → (song_from rate division tempo sum (events_from n f full running at)).verdict ≡ Broken why → at ≤ why.at
+          → (song_from rate division tempo sum (events_from n f full running at)).verdict ≡ Err why → at ≤ why.at
       track_reach n running at tempo sum r room why by e =
           go (broken_track f full rate division tempo sum running at (events_from n f full running at) (tracked f full n running at r room) why e)
         where
@@ -231,8 +226,8 @@ module _ (k : ℕ) (f g : List ℕ) (same : (i : ℕ) → i ≤ k → byte_at g 
       alike = omega arith
 
       same_track : (n n' running at tempo sum : ℕ) → Running running → at ≤ min full (length f) → min full (length f) - at < n → min full (length g) - at < n'
-          → (why : Fault) → why.at ≡ k → (song_from rate division tempo sum (events_from n f full running at)).verdict ≡ Broken why
-          → (song_from rate division tempo sum (events_from n' g full running at)).verdict ≡ Broken why
+          → (why : Fault) → why.at ≡ k → (song_from rate division tempo sum (events_from n f full running at)).verdict ≡ Err why
+          → (song_from rate division tempo sum (events_from n' g full running at)).verdict ≡ Err why
       unfolding events_from events_on song_from
       same_track zero n' running at tempo sum r room fuel fuel' why is = λ e. absurd (omega arith)
       same_track (suc n) zero running at tempo sum r room fuel fuel' why is = λ e. absurd (omega arith)
@@ -240,32 +235,32 @@ module _ (k : ℕ) (f g : List ℕ) (same : (i : ℕ) → i ≤ k → byte_at g 
           go (step_at f (min full (length f)) running at) refl (steps f (min full (length f)) running at r room)
           (λ status next tempo' sum' r' up less low. same_track n n' status next tempo' sum' r' up (omega arith) (omega arith) why is)
         where
-          there : (s : Step) → step_at f (min full (length f)) running at ≡ s → InStep k s → step_at g (min full (length g)) running at ≡ s
+          there : (s : Result Step Fault) → step_at f (min full (length f)) running at ≡ s → InStep k s → step_at g (min full (length g)) running at ≡ s
           there s e h = same_step k f g same (min full (length f)) (min full (length g)) alike running at (subst (InStep k) (sym e) h) ∙ e
 
-          go : (s : Step) → step_at f (min full (length f)) running at ≡ s → Steps f (min full (length f)) running at s
+          go : (s : Result Step Fault) → step_at f (min full (length f)) running at ≡ s → Steps f (min full (length f)) running at s
               → ((status next tempo' sum' : ℕ) → Running status → next ≤ min full (length f) → at < next → next ≤ suc k
-              → (song_from rate division tempo' sum' (events_from n f full status next)).verdict ≡ Broken why
-              → (song_from rate division tempo' sum' (events_from n' g full status next)).verdict ≡ Broken why)
-              → (song_from rate division tempo sum (events_on f full (events_from n f full) s)).verdict ≡ Broken why
-              → (song_from rate division tempo sum (events_on g full (events_from n' g full) (step_at g (min full (length g)) running at))).verdict ≡ Broken why
-          go (step.Broken w) at_step s more e = rw (there (step.Broken w) at_step (let p = ap (λ (w : Fault). w.at) (fault_is e) in omega arith)) e
-          go (step.End next) at_step s more e =
-              let b = same_behind full next (step-ends f (min full (length f)) running at (step.End next) at_step).1 why (omega arith) e in
+              → (song_from rate division tempo' sum' (events_from n f full status next)).verdict ≡ Err why
+              → (song_from rate division tempo' sum' (events_from n' g full status next)).verdict ≡ Err why)
+              → (song_from rate division tempo sum (events_on f full (events_from n f full) s)).verdict ≡ Err why
+              → (song_from rate division tempo sum (events_on g full (events_from n' g full) (step_at g (min full (length g)) running at))).verdict ≡ Err why
+          go (Err w) at_step s more e = rw (there (Err w) at_step (let p = ap (λ (w : Fault). w.at) (fault_is e) in omega arith)) e
+          go (Ok (step.End next)) at_step s more e =
+              let b = same_behind full next (step-ends f (min full (length f)) running at (Ok (step.End next)) at_step).1 why (omega arith) e in
               let low = b.0 in
-              rw (there (step.End next) at_step (omega arith)) b.1
-          go (step.Is d m status next) at_step s more e =
-              let ends = step-ends f (min full (length f)) running at (step.Is d m status next) at_step in
+              rw (there (Ok (step.End next)) at_step (omega arith)) b.1
+          go (Ok (step.Is d m status next)) at_step s more e =
+              let ends = step-ends f (min full (length f)) running at (Ok (step.Is d m status next)) at_step in
               let up = ends.1 in
               let less = ends.0 in
               let frame = frame_at rate division (sum + d * tempo) in
               let low : next ≤ suc k =
-              both (λ (song : Song). song.verdict ≡ Broken why → next ≤ suc k) (too_late frame m) _ _
+              both (λ (song : Song). song.verdict ≡ Err why → next ≤ suc k) (too_late frame m) _ _
               (λ _ e'. let p = ap (λ (w : Fault). w.at) (fault_is e') in omega arith)
               (λ _ e'. omega (arith, track_reach n status next (tempo_after tempo m) (sum + d * tempo) s.0 up why (omega arith) e'))
               e in
-              rw (there (step.Is d m status next) at_step low)
-              (carried why (too_late frame m) (Broken (fault_at LateFrame (next - 1))) (event_entries frame m)
+              rw (there (Ok (step.Is d m status next)) at_step low)
+              (carried why (too_late frame m) (Err (fault_at LateFrame (next - 1))) (event_entries frame m)
               (song_from rate division (tempo_after tempo m) (sum + d * tempo) (events_from n f full status next))
               (song_from rate division (tempo_after tempo m) (sum + d * tempo) (events_from n' g full status next))
               (more status next (tempo_after tempo m) (sum + d * tempo) s.0 up less low) e)
@@ -273,7 +268,7 @@ module _ (k : ℕ) (f g : List ℕ) (same : (i : ℕ) → i ≤ k → byte_at g 
     -- ---- the file from behind its header on
     module _ (rate division : ℕ) (why : Fault) (is : why.at ≡ k) where
       abbrev Breaking : List ℕ → Events → Type 0
-      Breaking l es = (song_from rate division first_tempo 0 es).verdict ≡ Broken why
+      Breaking l es = (song_from rate division first_tempo 0 es).verdict ≡ Err why
 
       track_told : (place : ℕ) → place + 4 ≤ length f → Breaking f (track_of f place) → (place + 8 ≤ k) × Breaking g (track_of g place)
       unfolding track_of song_from
@@ -283,7 +278,7 @@ module _ (k : ℕ) (f g : List ℕ) (same : (i : ℕ) → i ≤ k → byte_at g 
           full = place + 8 + four_at f (place + 4)
 
           go : (b : Bool) → ltb (length f) (place + 8) ≡ b
-              → Breaking f (cond b (over (Broken (fault_at Missing (length f)))) (events_from (length f) f (place + 8 + four_at f (place + 4)) 0 (place + 8)))
+              → Breaking f (cond b (over (Err (fault_at Missing (length f)))) (events_from (length f) f (place + 8 + four_at f (place + 4)) 0 (place + 8)))
               → (place + 8 ≤ k) × Breaking g (track_of g place)
           go true b e = let p = ap (λ (w : Fault). w.at) (fault_is e) in absurd (omega arith)
           go false b e =
@@ -299,41 +294,41 @@ module _ (k : ℕ) (f g : List ℕ) (same : (i : ℕ) → i ≤ k → byte_at g 
       unfolding events_of track_at song_from
       events_told next room = go (track_from (length f) f next) refl (search f octets (length f) next room (omega arith))
         where
-          same_found : (r : Found) → track_from (length f) f next ≡ r → InFound k (length f) r → track_from (length g) g next ≡ r
+          same_found : (r : Result (Option ℕ) Fault) → track_from (length f) f next ≡ r → InFound k (length f) r → track_from (length g) g next ≡ r
           same_found r e h = same_search (length f) (length g) next room (omega arith) (omega arith) (subst (InFound k (length f)) (sym e) h) ∙ e
 
-          go : (r : Found) → track_from (length f) f next ≡ r → Searched f octets next r → Breaking f (events_in f r)
+          go : (r : Result (Option ℕ) Fault) → track_from (length f) f next ≡ r → Searched f octets next r → Breaking f (events_in f r)
               → (next ≤ k) × Breaking g (events_in g (track_from (length g) g next))
-          go (found.Track place) at_place s e =
+          go (Ok (Some place)) at_place s e =
               let t = track_told place s.2 e in
               let low = t.0 in
-              let reads : InFound k (length f) (found.Track place) = omega arith in
-              (reach_search next room (found.Track place) s reads, rw (same_found (found.Track place) at_place reads) t.1)
-          go found.Nothing at-end s e = let p = ap (λ (w : Fault). w.at) (fault_is e) in absurd (omega arith)
-          go (found.Broken w) at_fault s e =
+              let reads : InFound k (length f) (Ok (Some place)) = omega arith in
+              (reach_search next room (Ok (Some place)) s reads, rw (same_found (Ok (Some place)) at_place reads) t.1)
+          go (Ok None) at-end s e = let p = ap (λ (w : Fault). w.at) (fault_is e) in absurd (omega arith)
+          go (Err w) at_fault s e =
               let p = ap (λ (w : Fault). w.at) (fault_is e) in
-              let reads : InFound k (length f) (found.Broken w) = omega arith in
-              (reach_search next room (found.Broken w) s reads, rw (same_found (found.Broken w) at_fault reads) e)
+              let reads : InFound k (length f) (Err w) = omega arith in
+              (reach_search next room (Err w) s reads, rw (same_found (Err w) at_fault reads) e)
 
-    song_told : (rate : ℕ) (why : Fault) → why.at ≡ k → (song_of rate f).verdict ≡ Broken why → (song_of rate g).verdict ≡ Broken why
+    song_told : (rate : ℕ) (why : Fault) → why.at ≡ k → (song_of rate f).verdict ≡ Err why → (song_of rate g).verdict ≡ Err why
     unfolding song_of Stage
     song_told rate why is = go (header_of f) refl (opens f octets)
       where
-        same_header : (o : Opening) → header_of f ≡ o → InOpening k o → header_of g ≡ o
+        same_header : (o : Result (ℕ × ℕ) Fault) → header_of f ≡ o → InOpening k o → header_of g ≡ o
         same_header o e h = stage_header.1 (subst (InOpening k) (sym e) h) ∙ e
 
-        go : (o : Opening) → header_of f ≡ o → Opens f octets o → (song_in rate f o).verdict ≡ Broken why → (song_in rate g (header_of g)).verdict ≡ Broken why
-        go (opening.Broken w) there s e =
+        go : (o : Result (ℕ × ℕ) Fault) → header_of f ≡ o → Opens f octets o → (song_in rate f o).verdict ≡ Err why → (song_in rate g (header_of g)).verdict ≡ Err why
+        go (Err w) there s e =
             let p = ap (λ (w : Fault). w.at) (fault_is e) in
-            rw (same_header (opening.Broken w) there (omega arith)) e
-        go (opening.Is division next) there s e =
+            rw (same_header (Err w) there (omega arith)) e
+        go (Ok (division, next)) there s e =
             let t = events_told rate division why is next s.1 e in
             let low = t.0 in
-            rw (same_header (opening.Is division next) there (omega arith)) t.1
+            rw (same_header (Ok (division, next)) there (omega arith)) t.1
 
 -- ---- a file that ends at the fault, or before it, is the same file
-pub same_fault : (rate : ℕ) (f g : List ℕ) → Octets f → (why : Fault) → (song_of rate f).verdict ≡ Broken why → take (suc why.at) g ≡ take (suc why.at) f
-    → (song_of rate g).verdict ≡ Broken why
+pub same_fault : (rate : ℕ) (f g : List ℕ) → Octets f → (why : Fault) → (song_of rate f).verdict ≡ Err why → take (suc why.at) g ≡ take (suc why.at) f
+    → (song_of rate g).verdict ≡ Err why
 same_fault rate f g octets why e same = go (ltb why.at (length f)) refl
   where
     sizes : min (suc why.at) (length g) ≡ min (suc why.at) (length f)
@@ -344,7 +339,7 @@ same_fault rate f g octets why e same = go (ltb why.at (length f)) refl
         let less : i < suc why.at = omega arith in
         sym (get_or-take (suc why.at) g i 0 less) ∙ ap (λ (l : List ℕ). byte_at l i) same ∙ get_or-take (suc why.at) f i 0 less
 
-    go : (b : Bool) → ltb why.at (length f) ≡ b → (song_of rate g).verdict ≡ Broken why
+    go : (b : Bool) → ltb why.at (length f) ≡ b → (song_of rate g).verdict ≡ Err why
     go true b = let inside = ltb-true why.at (length f) b in song_told why.at f g bytes inside (let s = sizes in omega arith) octets rate why refl e
     go false b =
         let short = ltb-false why.at (length f) b in

@@ -1,5 +1,6 @@
 -- What the reader takes, the grammar spells, and what stands before a fault is the beginning of something that it spells: quantities and events.
 -- Assumes nothing.
+use Rattle.std.specs.Prelude.{Result, Ok, Err}
 use mathlib.Core.Path.{◌≡◌, refl, sym, subst}
 use mathlib.Core.Bool.{Bool, true, false, cond, ◌||◌}
 use mathlib.Core.List.{List, [], ◌∷◌, ◌++◌, append_assoc}
@@ -14,14 +15,10 @@ use Rattle.smf.specs.Faults.{refusal_of}
 use Rattle.smf.specs.Fields.{three_at, quantity_from, quantity_at}
 use Rattle.smf.specs.Events.{data_at, is_one_byte, message_of, with_data, channel_event, past, with_quantity, sysex_at, tempo_of, meta_of, meta_at, status_of, event_at}
 use Rattle.smf.specs.declared.faults.Fault.{Fault}
-use Rattle.smf.specs.declared.fields.Quantity as fields
-use Rattle.smf.specs.declared.fields.Quantity.TheVariants as quantity
 use Rattle.smf.specs.declared.events.Event.{Event}
 use Rattle.smf.specs.declared.events.Event.TheVariants.{Tempo, Other}
-use Rattle.smf.specs.declared.events.Data.{Data}
-use Rattle.smf.specs.declared.events.Data.TheVariants as datum
 use Rattle.smf.specs.declared.events.Read.{Read}
-use Rattle.smf.specs.declared.events.Read.TheVariants.{Is, End, Broken}
+use Rattle.smf.specs.declared.events.Read.TheVariants.{Is, End}
 use Rattle.smf.proofs.Inside.{both, quantity_ends}
 use Rattle.song_grammar.specs.Grammar.{Digits, Quantity, Message, OneEvent}
 use Rattle.song_grammar.specs.Grammar.Digits.{last, next}
@@ -51,13 +48,13 @@ abbrev pub Cut : List ℕ → ℕ → (List ℕ → Type 0) → ℕ → Fault �
 Cut f end P at why = Spelt f P at why.at × (why.at ≤ end) × Plain why
 
 module _ (f : List ℕ) (end : ℕ) where
-  abbrev pub Counts : ℕ → ℕ → ℕ → fields.Quantity → Type 0
-  Counts more v at (quantity.Is n behind) = Spelt f (λ (bytes : List ℕ). Digits more v bytes n) at behind
-  Counts more v at (quantity.Broken why) = Cut f end (QuantityPart more v) at why
+  abbrev pub Counts : ℕ → ℕ → ℕ → Result (ℕ × ℕ) Fault → Type 0
+  Counts more v at (Ok (n, behind)) = Spelt f (λ (bytes : List ℕ). Digits more v bytes n) at behind
+  Counts more v at (Err why) = Cut f end (QuantityPart more v) at why
 
-  counts_more : (more v at : ℕ) (q : fields.Quantity) → 128 ≤ byte_at f at → Counts more (v * 128 + (byte_at f at - 128)) (at + 1) q → Counts (suc more) v at q
-  counts_more more v at (quantity.Is n behind) h s = record { bytes = byte_at f at ∷ s.bytes; is = next h s.is; there = (refl, s.there) }
-  counts_more more v at (quantity.Broken why) h (s, room, plain) = (
+  counts_more : (more v at : ℕ) (q : Result (ℕ × ℕ) Fault) → 128 ≤ byte_at f at → Counts more (v * 128 + (byte_at f at - 128)) (at + 1) q → Counts (suc more) v at q
+  counts_more more v at (Ok (n, behind)) h s = record { bytes = byte_at f at ∷ s.bytes; is = next h s.is; there = (refl, s.there) }
+  counts_more more v at (Err why) h (s, room, plain) = (
     record {
       bytes = byte_at f at ∷ s.bytes;
       is = (s.is.0, s.is.1, next h s.is.2, s.is.3);
@@ -166,14 +163,14 @@ abbrev pub MessagePart : ℕ → List ℕ → Type 0
 MessagePart status bytes = (rest : List ℕ) × (e : Event) × Message status (bytes ++ rest) e
 
 module _ (f : List ℕ) (end : ℕ) where
-  abbrev pub Hears : ℕ → ℕ → Read → Type 0
-  Hears status at (Is e s behind) = (s ≡ status) × Spelt f (λ (bytes : List ℕ). Message status bytes e) at behind
-  Hears status at (End behind) = ⊥
-  Hears status at (Broken why) = Cut f end (MessagePart status) at why
+  abbrev pub Hears : ℕ → ℕ → Result Read Fault → Type 0
+  Hears status at (Ok (Is e s behind)) = (s ≡ status) × Spelt f (λ (bytes : List ℕ). Message status bytes e) at behind
+  Hears status at (Ok (End behind)) = ⊥
+  Hears status at (Err why) = Cut f end (MessagePart status) at why
 
-  abbrev Byte : ℕ → Data → Type 0
-  Byte at (datum.Is b) = (byte_at f at ≡ b) × (b < 128) × (at < end)
-  Byte at (datum.Broken why) = (why.at ≡ at) × Plain why
+  abbrev Byte : ℕ → Result ℕ Fault → Type 0
+  Byte at (Ok b) = (byte_at f at ≡ b) × (b < 128) × (at < end)
+  Byte at (Err why) = (why.at ≡ at) × Plain why
 
   byte : (at : ℕ) → Byte at (data_at f end at)
   unfolding data_at refusal_of
@@ -191,9 +188,9 @@ module _ (f : List ℕ) (end : ℕ) where
         go true e = (0 ∷ [], Other, one_message status 0 (omega arith) e)
         go false e = (0 ∷ 0 ∷ [], message_of status 0 0, two_message status 0 0 (omega arith) (omega arith) low high e)
 
-    second : (x : ℕ) → x < 128 → byte_at f at ≡ x → at < end → is_one_byte status ≡ false → (d : Data) → Byte (at + 1) d
-        → Hears status at (with_data d (λ y. Is (message_of status x y) status (at + 2)))
-    second x small is inside two (datum.Is y) b = (
+    second : (x : ℕ) → x < 128 → byte_at f at ≡ x → at < end → is_one_byte status ≡ false → (d : Result ℕ Fault) → Byte (at + 1) d
+        → Hears status at (with_data d (λ y. Ok (Is (message_of status x y) status (at + 2))))
+    second x small is inside two (Ok y) b = (
       refl,
       record {
         bytes = x ∷ y ∷ [];
@@ -201,7 +198,7 @@ module _ (f : List ℕ) (end : ℕ) where
         there = (is, (b.0, omega arith));
       },
     )
-    second x small is inside two (datum.Broken why) b = (
+    second x small is inside two (Err why) b = (
       record {
         bytes = x ∷ [];
         is = (0 ∷ [], message_of status x 0, two_message status x 0 small (omega arith) low high two);
@@ -211,13 +208,13 @@ module _ (f : List ℕ) (end : ℕ) where
       b.1,
     )
 
-    first : (d : Data) → Byte at d
-        → Hears status at (with_data d (λ x. cond (is_one_byte status) (Is Other status (at + 1)) (with_data (data_at f end (at + 1)) (λ y. Is (message_of status x y) status (at + 2)))))
-    first (datum.Is x) b =
+    first : (d : Result ℕ Fault) → Byte at d
+        → Hears status at (with_data d (λ x. cond (is_one_byte status) (Ok (Is Other status (at + 1))) (with_data (data_at f end (at + 1)) (λ y. Ok (Is (message_of status x y) status (at + 2))))))
+    first (Ok x) b =
         both (Hears status at) (is_one_byte status) _ _
         (λ one. (refl, record { bytes = x ∷ []; is = one_message status x b.1 one; there = (b.0, refl) }))
         (λ two. second x b.1 b.0 b.2 two (data_at f end (at + 1)) (byte (at + 1)))
-    first (datum.Broken why) b = (record { bytes = []; is = begins_none; there = sym b.0 }, omega arith, b.1)
+    first (Err why) b = (record { bytes = []; is = begins_none; there = sym b.0 }, omega arith, b.1)
 
     pub hears : Hears status at (channel_event f end status at)
     unfolding channel_event
@@ -304,10 +301,10 @@ module _ (f : List ℕ) (end running : ℕ) where
       (sym (three_is f mid a b c more behind from))
       (tempo a b c more (subst (Quantity size) n q))
 
-  abbrev pub Shows : ℕ → Read → Type 0
-  Shows at (Is e s behind) = Running s × Spelt f (λ (bytes : List ℕ). OneEvent running bytes e s) at behind
-  Shows at (End behind) = Spelt f EndBytes at behind
-  Shows at (Broken why) = Cut f end (EventPart running) at why
+  abbrev pub Shows : ℕ → Result Read Fault → Type 0
+  Shows at (Ok (Is e s behind)) = Running s × Spelt f (λ (bytes : List ℕ). OneEvent running bytes e s) at behind
+  Shows at (Ok (End behind)) = Spelt f EndBytes at behind
+  Shows at (Err why) = Cut f end (EventPart running) at why
 
   -- a system exclusive, from its length on
   module _ (at : ℕ) (first : ℕ) (is : byte_at f at ≡ first) (made : (size body : List ℕ) → Quantity size (length body) → OneEvent running (first ∷ (size ++ body)) Other 0) where
@@ -320,10 +317,10 @@ module _ (f : List ℕ) (end running : ℕ) where
           there = (is, s.there);
         }
 
-    exclusive : (q : fields.Quantity) → Counts f end 3 0 (at + 1) q → ((n mid : ℕ) → q ≡ quantity.Is n mid → mid ≤ end)
-        → Shows at (with_quantity q (λ size next. past end size next (Is Other 0 (next + size))))
+    exclusive : (q : Result (ℕ × ℕ) Fault) → Counts f end 3 0 (at + 1) q → ((n mid : ℕ) → q ≡ Ok (n, mid) → mid ≤ end)
+        → Shows at (with_quantity q (λ size next. past end size next (Ok (Is Other 0 (next + size)))))
     unfolding refusal_of
-    exclusive (quantity.Is n mid) c up =
+    exclusive (Ok (n, mid)) c up =
         both (Shows at) (leb n (end - mid)) _ _
         (λ fits. (
           inl refl,
@@ -334,7 +331,7 @@ module _ (f : List ℕ) (end running : ℕ) where
           },
         ))
         (λ short. (exclusive_part end (body_cut f 0 (at + 1) mid end n c (up n mid refl) (leb-false n (end - mid) short) (omega arith)), omega arith, refl))
-    exclusive (quantity.Broken why) c up = (exclusive_part why.at (size_cut f 0 (at + 1) why.at (omega arith) c.0), c.1, c.2)
+    exclusive (Err why) c up = (exclusive_part why.at (size_cut f 0 (at + 1) why.at (omega arith) c.0), c.1, c.2)
 
     pub shows_exclusive : at < end → Shows at (sysex_at f end (at + 1))
     unfolding sysex_at
@@ -414,7 +411,7 @@ module _ (f : List ℕ) (end running : ℕ) where
           ))
           (λ short. (part_as end (tempo_part same) (body_cut f 3 (at + 1 + 1) mid end n c up (leb-false n (end - mid) short) three), omega arith, refl)))
 
-      shows_rest : eqb type 0x51 ≡ false → Shows at (past end n mid (cond (eqb type 0x2F) (End (mid + n)) (Is Other 0 (mid + n))))
+      shows_rest : eqb type 0x51 ≡ false → Shows at (past end n mid (cond (eqb type 0x2F) (Ok (End (mid + n))) (Ok (Is Other 0 (mid + n)))))
       unfolding refusal_of
       shows_rest t =
           both (Shows at) (leb n (end - mid)) _ _
@@ -438,10 +435,10 @@ module _ (f : List ℕ) (end running : ℕ) where
       unfolding meta_of
       shows_body = both (Shows at) (eqb type 0x51) _ _ shows_tempo shows_rest
 
-    shows_sized : (q : fields.Quantity) → Counts f end 3 0 (at + 1 + 1) q → ((n mid : ℕ) → q ≡ quantity.Is n mid → mid ≤ end)
+    shows_sized : (q : Result (ℕ × ℕ) Fault) → Counts f end 3 0 (at + 1 + 1) q → ((n mid : ℕ) → q ≡ Ok (n, mid) → mid ≤ end)
         → Shows at (with_quantity q (λ size next. meta_of f end type size next))
-    shows_sized (quantity.Is n mid) c up = shows_body n mid c (up n mid refl)
-    shows_sized (quantity.Broken why) c up = (part_as why.at any_part (size_cut f 3 (at + 1 + 1) why.at (omega arith) c.0), c.1, c.2)
+    shows_sized (Ok (n, mid)) c up = shows_body n mid c (up n mid refl)
+    shows_sized (Err why) c up = (part_as why.at any_part (size_cut f 3 (at + 1 + 1) why.at (omega arith) c.0), c.1, c.2)
 
   shows_meta : (at : ℕ) → byte_at f at ≡ 0xFF → at < end → Shows at (meta_at f end (at + 1))
   unfolding meta_at refusal_of
@@ -457,8 +454,8 @@ module _ (f : List ℕ) (end running : ℕ) where
       no_type = record { bytes = 0xFF ∷ []; is = of_end (0x2F ∷ 0 ∷ []) (end_bytes [] (last {b = 0} (omega arith))); there = (is, refl) }
 
   -- ---- an event
-  told_shown : (at : ℕ) (r : Read) → 128 ≤ byte_at f at → byte_at f at < 240 → Hears f end (byte_at f at) (at + 1) r → Shows at r
-  told_shown at (Is e s behind) low high h = (
+  told_shown : (at : ℕ) (r : Result Read Fault) → 128 ≤ byte_at f at → byte_at f at < 240 → Hears f end (byte_at f at) (at + 1) r → Shows at r
+  told_shown at (Ok (Is e s behind)) low high h = (
     inr (rw h.0 (low, high)),
     record {
       bytes = byte_at f at ∷ h.1.bytes;
@@ -466,8 +463,8 @@ module _ (f : List ℕ) (end running : ℕ) where
       there = (refl, h.1.there);
     },
   )
-  told_shown at (End behind) low high h = absurd h
-  told_shown at (Broken why) low high (h, room, plain) = (
+  told_shown at (Ok (End behind)) low high h = absurd h
+  told_shown at (Err why) low high (h, room, plain) = (
     record {
       bytes = byte_at f at ∷ h.bytes;
       is = of_event h.is.0 (told h.is.2);
@@ -477,8 +474,8 @@ module _ (f : List ℕ) (end running : ℕ) where
     plain,
   )
 
-  again_shown : (at : ℕ) (r : Read) → 128 ≤ running → running < 240 → Hears f end running at r → Shows at r
-  again_shown at (Is e s behind) low high h = (
+  again_shown : (at : ℕ) (r : Result Read Fault) → 128 ≤ running → running < 240 → Hears f end running at r → Shows at r
+  again_shown at (Ok (Is e s behind)) low high h = (
     inr (rw h.0 (low, high)),
     record {
       bytes = h.1.bytes;
@@ -486,8 +483,8 @@ module _ (f : List ℕ) (end running : ℕ) where
       there = h.1.there;
     },
   )
-  again_shown at (End behind) low high h = absurd h
-  again_shown at (Broken why) low high (h, room, plain) = (record { bytes = h.bytes; is = of_event h.is.0 (again h.is.2); there = h.there }, room, plain)
+  again_shown at (Ok (End behind)) low high h = absurd h
+  again_shown at (Err why) low high (h, room, plain) = (record { bytes = h.bytes; is = of_event h.is.0 (again h.is.2); there = h.there }, room, plain)
 
   shows_status : (at : ℕ) → 128 ≤ byte_at f at → at < end → Shows at (status_of f end (byte_at f at) (at + 1))
   unfolding status_of refusal_of

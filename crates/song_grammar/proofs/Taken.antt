@@ -1,4 +1,5 @@
 -- What the grammar spells, the reader takes: quantities and events. Assumes nothing.
+use Rattle.std.specs.Prelude.{Result, Ok}
 use mathlib.Core.Path.{◌≡◌, refl, sym, ap, ◌∙◌, subst}
 use mathlib.Core.Bool.{true, false}
 use mathlib.Core.List.{List, [], ◌∷◌, ◌++◌}
@@ -10,10 +11,8 @@ use borrow.Author.Tests.{lt-ltb, le-ltb, le-leb, lt-leb, ne_eqb}
 use Rattle.octets.specs.Octets.{byte_at, number_of}
 use Rattle.smf.specs.Fields.{quantity_from, quantity_at}
 use Rattle.smf.specs.Events.{data_at, is_one_byte, message_of, channel_event, sysex_at, tempo_of, meta_of, meta_at, status_of, event_at, step_timed, step_at}
-use Rattle.smf.specs.declared.fields.Quantity.TheVariants as quantity
 use Rattle.smf.specs.declared.events.Event.{Event}
 use Rattle.smf.specs.declared.events.Event.TheVariants.{Note, Tempo, Other}
-use Rattle.smf.specs.declared.events.Data.TheVariants as datum
 use Rattle.smf.specs.declared.events.Read.{Read}
 use Rattle.smf.specs.declared.events.Read.TheVariants.{Is, End}
 use Rattle.smf.specs.declared.events.Step.TheVariants as step
@@ -23,10 +22,11 @@ use Rattle.song_grammar.specs.Grammar.Digits.{last, next}
 use Rattle.song_grammar.specs.Grammar.Message.{note_off, note_on, key_pressure, control, program, pressure, pitch_wheel}
 use Rattle.song_grammar.specs.Grammar.OneEvent.{told, again, sysex, escape, tempo, meta}
 use Rattle.song_grammar.proofs.Segments.{From, from_length, Split, split, three_is}
+use Rattle.smf.specs.declared.faults.Fault.{Fault}
 
 module _ (f : List ℕ) (end : ℕ) where
   pub digits_taken : {more v n : ℕ} {bytes : List ℕ} → Digits more v bytes n → (at behind : ℕ) → From f at bytes behind → behind ≤ end
-      → quantity_from more f end v at ≡ quantity.Is n behind
+      → quantity_from more f end v at ≡ Ok (n, behind)
   digits_taken (last {more} {v} {b} small) at behind h k = quantity_last f end v at more (omega arith) (omega arith) ∙ cc
   digits_taken (next {more} {v} {b} {n} {bytes} high rest) at behind h k =
       let long = from_length f (at + 1) bytes behind h.1 in
@@ -39,16 +39,16 @@ module _ (f : List ℕ) (end : ℕ) where
   some_bytes (next h rest) = omega arith
 
   -- ---- channel messages
-  data_taken : (at : ℕ) → at < end → byte_at f at < 128 → data_at f end at ≡ datum.Is (byte_at f at)
+  data_taken : (at : ℕ) → at < end → byte_at f at < 128 → data_at f end at ≡ Ok (byte_at f at)
   unfolding data_at
   data_taken at h k = simp (lt-ltb _ _ h, lt-ltb _ _ k)
 
-  one_taken : (status at : ℕ) → is_one_byte status ≡ true → at < end → byte_at f at < 128 → channel_event f end status at ≡ Is Other status (at + 1)
+  one_taken : (status at : ℕ) → is_one_byte status ≡ true → at < end → byte_at f at < 128 → channel_event f end status at ≡ Ok (Is Other status (at + 1))
   unfolding channel_event
   one_taken status at one h k = rw (data_taken at h k, one)
 
   two_taken : (status at : ℕ) → is_one_byte status ≡ false → at + 1 < end → byte_at f at < 128 → byte_at f (at + 1) < 128
-      → channel_event f end status at ≡ Is (message_of status (byte_at f at) (byte_at f (at + 1))) status (at + 2)
+      → channel_event f end status at ≡ Ok (Is (message_of status (byte_at f at) (byte_at f (at + 1))) status (at + 2))
   unfolding channel_event
   two_taken status at two h k l = rw (data_taken at (omega arith) k, two, data_taken (at + 1) h l)
 
@@ -91,7 +91,7 @@ other_means status x y h =
 module _ (f : List ℕ) (end : ℕ) where
   -- a message that is taken: its status, and its first byte
   pub record Heard (status at behind : ℕ) (e : Event) : Type 0 where
-    pub read : channel_event f end status at ≡ Is e status behind
+    pub read : channel_event f end status at ≡ Ok (Is e status behind)
     pub low : 128 ≤ status
     pub high : status < 240
     pub small : byte_at f at < 128
@@ -107,10 +107,10 @@ module _ (f : List ℕ) (end : ℕ) where
       record {
         read =
             two_taken f end status at two (omega arith) (omega arith) (omega arith)
-            ∙ ap (λ (b : ℕ). Is (message_of status b (byte_at f (at + 1))) status (at + 2)) first
-            ∙ ap (λ (b : ℕ). Is (message_of status x b) status (at + 2)) second
-            ∙ ap (λ (m : Event). Is m status (at + 2)) means
-            ∙ ap (λ (n : ℕ). Is e status n) place;
+            ∙ ap (λ (b : ℕ). Ok (Is (message_of status b (byte_at f (at + 1))) status (at + 2))) first
+            ∙ ap (λ (b : ℕ). Ok (Is (message_of status x b) status (at + 2))) second
+            ∙ ap (λ (m : Event). Ok (Is m status (at + 2))) means
+            ∙ ap (λ (n : ℕ). Ok (Is e status n)) place;
         low = low;
         high = high;
         small = omega arith;
@@ -122,7 +122,7 @@ module _ (f : List ℕ) (end : ℕ) where
       let first = from.0 in
       let there : at + 1 ≡ behind = from.1 in
       record {
-        read = one_taken f end status at (one_byte status low high) (omega arith) (omega arith) ∙ ap (λ (n : ℕ). Is Other status n) there;
+        read = one_taken f end status at (one_byte status low high) (omega arith) (omega arith) ∙ ap (λ (n : ℕ). Ok (Is Other status n)) there;
         low = omega arith;
         high = omega arith;
         small = omega arith;
@@ -149,14 +149,14 @@ module _ (f : List ℕ) (end : ℕ) where
   unfolding event_at
   status_on running at h k = simp (lt-ltb _ _ h, le-leb _ _ k)
 
-  told_taken : (running at behind : ℕ) (e : Event) → at < end → Heard (byte_at f at) (at + 1) behind e → event_at f end running at ≡ Is e (byte_at f at) behind
+  told_taken : (running at behind : ℕ) (e : Event) → at < end → Heard (byte_at f at) (at + 1) behind e → event_at f end running at ≡ Ok (Is e (byte_at f at) behind)
   unfolding status_of
   told_taken running at behind e h m =
       let low = m.low in
       let high = m.high in
       status_on running at h low ∙ (simp (lt-ltb _ _ high) m.read)
 
-  again_taken : (running at behind : ℕ) (e : Event) → at < end → Heard running at behind e → event_at f end running at ≡ Is e running behind
+  again_taken : (running at behind : ℕ) (e : Event) → at < end → Heard running at behind e → event_at f end running at ≡ Ok (Is e running behind)
   unfolding event_at
   again_taken running at behind e h m =
       let some : running ≡ 0 → ⊥ = (λ z. let low = m.low in omega arith) in
@@ -168,7 +168,7 @@ module _ (f : List ℕ) (end : ℕ) where
     pub cut : Split f at size body behind
     cut = split f at size body behind from
 
-    pub sized : quantity_at f end at ≡ quantity.Is n cut.mid
+    pub sized : quantity_at f end at ≡ Ok (n, cut.mid)
     sized = digits_taken f end q at cut.mid cut.left (let u = cut.up in omega arith)
 
     pub covered : (n ≡ length body) → (n ≤ end - cut.mid) × (cut.mid + n ≡ behind)
@@ -176,15 +176,15 @@ module _ (f : List ℕ) (end : ℕ) where
         let k = from_length f cut.mid body behind cut.right in
         (omega arith, omega arith)
 
-    sysex_taken : n ≡ length body → sysex_at f end at ≡ Is Other 0 behind
+    sysex_taken : n ≡ length body → sysex_at f end at ≡ Ok (Is Other 0 behind)
     unfolding sysex_at
     sysex_taken e =
         let k = covered e in
         let fits = k.0 in
-        rw sized (simp (le-leb _ _ fits) (ap (λ (m : ℕ). Is Other 0 m) k.1))
+        rw sized (simp (le-leb _ _ fits) (ap (λ (m : ℕ). Ok (Is Other 0 m)) k.1))
 
   -- ---- meta-events, from the type on
-  meta_on : (at n mid : ℕ) → at < end → byte_at f at < 128 → quantity_at f end (at + 1) ≡ quantity.Is n mid → meta_at f end at ≡ meta_of f end (byte_at f at) n mid
+  meta_on : (at n mid : ℕ) → at < end → byte_at f at < 128 → quantity_at f end (at + 1) ≡ Ok (n, mid) → meta_at f end at ≡ meta_of f end (byte_at f at) n mid
   unfolding meta_at
   meta_on at n mid h k q = rw (lt-ltb _ _ h, lt-ltb _ _ k, q)
 
@@ -202,22 +202,22 @@ module _ (f : List ℕ) (end : ℕ) where
         ∙ ap (λ (t : ℕ). meta_of f end t n mid) is
 
     module _ (e : n ≡ length body) where
-      meta_taken : (type ≡ 0x51 → ⊥) → (type ≡ 0x2F → ⊥) → meta_at f end at ≡ Is Other 0 behind
+      meta_taken : (type ≡ 0x51 → ⊥) → (type ≡ 0x2F → ⊥) → meta_at f end at ≡ Ok (Is Other 0 behind)
       unfolding meta_of
       meta_taken no_tempo no_end =
           let k = covered (at + 1) behind n size body q from.1 room e in
           let fits = k.0 in
-          body_on ∙ (simp (ne_eqb _ _ no_tempo, le-leb _ _ fits, ne_eqb _ _ no_end) (ap (λ (m : ℕ). Is Other 0 m) k.1))
+          body_on ∙ (simp (ne_eqb _ _ no_tempo, le-leb _ _ fits, ne_eqb _ _ no_end) (ap (λ (m : ℕ). Ok (Is Other 0 m)) k.1))
 
-      end_taken : type ≡ 0x2F → meta_at f end at ≡ End behind
+      end_taken : type ≡ 0x2F → meta_at f end at ≡ Ok (End behind)
       unfolding meta_of
       end_taken is =
           let k = covered (at + 1) behind n size body q from.1 room e in
           let fits = k.0 in
-          body_on ∙ (ap (λ (t : ℕ). meta_of f end t n mid) is) ∙ (simp (le-leb _ _ fits) (ap End k.1))
+          body_on ∙ (ap (λ (t : ℕ). meta_of f end t n mid) is) ∙ (simp (le-leb _ _ fits) (ap (λ (n : ℕ). Ok (End n)) k.1))
 
   tempo_taken : (at behind : ℕ) (a b c : ℕ) (size more : List ℕ) → Quantity size (3 + length more) → From f at (0x51 ∷ (size ++ (a ∷ b ∷ c ∷ more))) behind → behind ≤ end
-      → meta_at f end at ≡ Is (Tempo (number_of (a ∷ b ∷ c ∷ []))) 0 behind
+      → meta_at f end at ≡ Ok (Is (Tempo (number_of (a ∷ b ∷ c ∷ []))) 0 behind)
   unfolding meta_of tempo_of
   tempo_taken at behind a b c size more q from room =
       let body = a ∷ b ∷ c ∷ more in
@@ -227,28 +227,28 @@ module _ (f : List ℕ) (end : ℕ) where
       let long : 3 ≤ 3 + length more = omega arith in
       body_on at behind 0x51 (3 + length more) size body q from room (omega arith)
       ∙ (simp (le-ltb _ _ long, le-leb _ _ fits)
-      (ap (λ (t : ℕ). Is (Tempo t) 0 (s.mid + (3 + length more))) (three_is f s.mid a b c more behind s.right)
-      ∙ ap (λ (m : ℕ). Is (Tempo (number_of (a ∷ b ∷ c ∷ []))) 0 m) k.1))
+      (ap (λ (t : ℕ). Ok (Is (Tempo t) 0 (s.mid + (3 + length more)))) (three_is f s.mid a b c more behind s.right)
+      ∙ ap (λ (m : ℕ). Ok (Is (Tempo (number_of (a ∷ b ∷ c ∷ []))) 0 m)) k.1))
 
   -- ---- an event
-  other_taken : (running at : ℕ) (r : Read) → at < end → byte_at f at ≡ 0xFF → meta_at f end (at + 1) ≡ r → event_at f end running at ≡ r
+  other_taken : (running at : ℕ) (r : Result Read Fault) → at < end → byte_at f at ≡ 0xFF → meta_at f end (at + 1) ≡ r → event_at f end running at ≡ r
   unfolding status_of
   other_taken running at r h is e = status_on running at h (omega arith) ∙ ap (λ (s : ℕ). status_of f end s (at + 1)) is ∙ e
 
-  exclusive_taken : (running at status : ℕ) (r : Read) → at < end → byte_at f at ≡ status → (status ≡ 0xF0) ⊎ (status ≡ 0xF7) → sysex_at f end (at + 1) ≡ r
+  exclusive_taken : (running at status : ℕ) (r : Result Read Fault) → at < end → byte_at f at ≡ status → (status ≡ 0xF0) ⊎ (status ≡ 0xF7) → sysex_at f end (at + 1) ≡ r
       → event_at f end running at ≡ r
   unfolding status_of
   exclusive_taken running at status r h is (inl z) e = status_on running at h (omega arith) ∙ ap (λ (s : ℕ). status_of f end s (at + 1)) (is ∙ z) ∙ e
   exclusive_taken running at status r h is (inr z) e = status_on running at h (omega arith) ∙ ap (λ (s : ℕ). status_of f end s (at + 1)) (is ∙ z) ∙ e
 
   pub event_taken : {running status : ℕ} {bytes : List ℕ} {e : Event} → OneEvent running bytes e status → (at behind : ℕ) → From f at bytes behind
-      → behind ≤ end → event_at f end running at ≡ Is e status behind
+      → behind ≤ end → event_at f end running at ≡ Ok (Is e status behind)
   event_taken {running} (told {status} {bytes} {e} m) at behind from room =
       let is = from.0 in
       let k = from_length f (at + 1) bytes behind from.1 in
       let h = message_taken m (at + 1) behind from.1 room in
       told_taken running at behind e (let i = h.inside in omega arith) (subst (λ (s : ℕ). Heard s (at + 1) behind e) (sym is) h)
-      ∙ ap (λ (s : ℕ). Is e s behind) is
+      ∙ ap (λ (s : ℕ). Ok (Is e s behind)) is
   event_taken {running} (again {bytes} {e} m) at behind from room =
       let h = message_taken m at behind from room in
       again_taken running at behind e (let i = h.inside in omega arith) h
@@ -266,14 +266,14 @@ module _ (f : List ℕ) (end : ℕ) where
       other_taken running at _ (omega arith) from.0 (meta_taken (at + 1) behind type (length body) size body q from.1 room small refl no_tempo no_end)
 
   pub end_event : (running at behind : ℕ) (size body : List ℕ) → Quantity size (length body) → From f at (0xFF ∷ 0x2F ∷ (size ++ body)) behind → behind ≤ end
-      → event_at f end running at ≡ End behind
+      → event_at f end running at ≡ Ok (End behind)
   end_event running at behind size body r from room =
       let k = from_length f (at + 1) (0x2F ∷ (size ++ body)) behind from.1 in
-      other_taken running at (End behind) (omega arith) from.0
+      other_taken running at (Ok (End behind)) (omega arith) from.0
       (end_taken (at + 1) behind 0x2F (length body) size body r from.1 room (omega arith) refl refl)
 
   -- ---- with its delta-time
-  step_on : (running at ticks mid : ℕ) → at < end → quantity_at f end at ≡ quantity.Is ticks mid → step_at f end running at ≡ step_timed ticks (event_at f end running mid)
+  step_on : (running at ticks mid : ℕ) → at < end → quantity_at f end at ≡ Ok (ticks, mid) → step_at f end running at ≡ step_timed ticks (event_at f end running mid)
   unfolding step_at
   step_on running at ticks mid h q = rw (lt-ltb _ _ h, q)
 
@@ -288,10 +288,10 @@ module _ (f : List ℕ) (end : ℕ) where
         let up = apart.up in
         step_on running at ticks apart.mid (omega arith) (digits_taken f end q at apart.mid apart.left (omega arith))
 
-    pub step_taken : {status : ℕ} {e : Event} → OneEvent running event e status → step_at f end running at ≡ step.Is ticks e status behind
+    pub step_taken : {status : ℕ} {e : Event} → OneEvent running event e status → step_at f end running at ≡ Ok (step.Is ticks e status behind)
     step_taken o = on ∙ ap (step_timed ticks) (event_taken o apart.mid behind apart.right room)
 
-    pub end_step : (size body : List ℕ) → Quantity size (length body) → event ≡ 0xFF ∷ 0x2F ∷ (size ++ body) → step_at f end running at ≡ step.End behind
+    pub end_step : (size body : List ℕ) → Quantity size (length body) → event ≡ 0xFF ∷ 0x2F ∷ (size ++ body) → step_at f end running at ≡ Ok (step.End behind)
     end_step size body r is =
         let right : From f apart.mid (0xFF ∷ 0x2F ∷ (size ++ body)) behind = subst (λ (l : List ℕ). From f apart.mid l behind) is apart.right in
         on ∙ ap (step_timed ticks) (end_event running apart.mid behind size body r right room)

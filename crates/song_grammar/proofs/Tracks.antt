@@ -1,4 +1,5 @@
 -- What the reader takes, the grammar spells, and what stands before a fault is the beginning of something that it spells: tracks. Assumes nothing.
+use Rattle.std.specs.Prelude.{Result, Ok, Err}
 use mathlib.Core.Path.{◌≡◌, refl, sym, ap, ◌∙◌, subst}
 use mathlib.Core.List.{List, [], ◌∷◌, ◌++◌, append-nil, append_assoc}
 use mathlib.Core.Logic.{◌⊎◌, inl, inr, ◌≢◌}
@@ -17,15 +18,11 @@ use Rattle.smf.specs.Cues.{Song, tempo_after, too_late, song_from}
 use Rattle.smf.specs.Promised.{Timed, timed_of}
 use Rattle.smf.specs.declared.faults.Reason.TheVariants.{LateFrame}
 use Rattle.smf.specs.declared.faults.Fault.{Fault}
-use Rattle.smf.specs.declared.fields.Quantity as fields
-use Rattle.smf.specs.declared.fields.Quantity.TheVariants as quantity
 use Rattle.smf.specs.declared.events.Event.{Event}
 use Rattle.smf.specs.declared.events.Read.{Read}
-use Rattle.smf.specs.declared.events.Read.TheVariants.{Is, End, Broken}
+use Rattle.smf.specs.declared.events.Read.TheVariants.{Is, End}
 use Rattle.smf.specs.declared.events.Step.{Step}
 use Rattle.smf.specs.declared.events.Step.TheVariants as step
-use Rattle.smf.specs.declared.chunks.Verdict.{Verdict}
-use Rattle.smf.specs.declared.chunks.Verdict.TheVariants as verdict
 use Rattle.smf.proofs.Inside.{both, quantity_ends, step-ends}
 use Rattle.song_grammar.specs.Grammar.{Quantity, OneEvent, Track}
 use Rattle.song_grammar.specs.Grammar.Digits.{last}
@@ -94,14 +91,14 @@ delta_part running bytes (rest, n, q, big) = (
 )
 
 module _ (f : List ℕ) (end : ℕ) where
-  abbrev pub Steps : ℕ → ℕ → Step → Type 0
-  Steps running at (step.Is ticks e status behind) = Running status × Spelt f (λ (bytes : List ℕ). TimedBytes running bytes ticks e status) at behind
-  Steps running at (step.End behind) = Spelt f (λ (bytes : List ℕ). Track running bytes []) at behind
-  Steps running at (step.Broken why) = Cut f end (TrackPart running) at why
+  abbrev pub Steps : ℕ → ℕ → Result Step Fault → Type 0
+  Steps running at (Ok (step.Is ticks e status behind)) = Running status × Spelt f (λ (bytes : List ℕ). TimedBytes running bytes ticks e status) at behind
+  Steps running at (Ok (step.End behind)) = Spelt f (λ (bytes : List ℕ). Track running bytes []) at behind
+  Steps running at (Err why) = Cut f end (TrackPart running) at why
 
   module _ (running at : ℕ) where
-    after_delta : (ticks mid : ℕ) → Spelt f (λ (bytes : List ℕ). Quantity bytes ticks) at mid → (r : Read) → Shows f end running mid r → Steps running at (step_timed ticks r)
-    after_delta ticks mid d (Is e status behind) s = (
+    after_delta : (ticks mid : ℕ) → Spelt f (λ (bytes : List ℕ). Quantity bytes ticks) at mid → (r : Result Read Fault) → Shows f end running mid r → Steps running at (step_timed ticks r)
+    after_delta ticks mid d (Ok (Is e status behind)) s = (
       s.0,
       record {
         bytes = d.bytes ++ s.1.bytes;
@@ -109,12 +106,12 @@ module _ (f : List ℕ) (end : ℕ) where
         there = join f at d.bytes mid s.1.bytes behind d.there s.1.there;
       },
     )
-    after_delta ticks mid d (End behind) s = record {
+    after_delta ticks mid d (Ok (End behind)) s = record {
       bytes = d.bytes ++ s.bytes;
       is = end_track d.is s.is;
       there = join f at d.bytes mid s.bytes behind d.there s.there;
     }
-    after_delta ticks mid d (Broken why) (s, room, plain) = (
+    after_delta ticks mid d (Err why) (s, room, plain) = (
       record {
         bytes = d.bytes ++ s.bytes;
         is = event_part d.is s.is;
@@ -124,9 +121,9 @@ module _ (f : List ℕ) (end : ℕ) where
       plain,
     )
 
-    with_delta_lem : Running running → (q : fields.Quantity) → Counts f end 3 0 at q → ((n mid : ℕ) → q ≡ quantity.Is n mid → mid ≤ end) → Steps running at (with_delta q (event_at f end running))
-    with_delta_lem r (quantity.Is ticks mid) c up = after_delta ticks mid c (event_at f end running mid) (shows f end running mid r (up ticks mid refl))
-    with_delta_lem r (quantity.Broken why) (c, room, plain) up = (record { bytes = c.bytes; is = delta_part running c.bytes c.is; there = c.there }, room, plain)
+    with_delta_lem : Running running → (q : Result (ℕ × ℕ) Fault) → Counts f end 3 0 at q → ((n mid : ℕ) → q ≡ Ok (n, mid) → mid ≤ end) → Steps running at (with_delta q (event_at f end running))
+    with_delta_lem r (Ok (ticks, mid)) c up = after_delta ticks mid c (event_at f end running mid) (shows f end running mid r (up ticks mid refl))
+    with_delta_lem r (Err why) (c, room, plain) up = (record { bytes = c.bytes; is = delta_part running c.bytes c.is; there = c.there }, room, plain)
 
     pub nothing_yet : Spelt f (TrackPart running) at at
     nothing_yet = record { bytes = []; is = (at_once, [], ends_at_once running); there = refl }
@@ -141,14 +138,14 @@ module _ (f : List ℕ) (end : ℕ) where
 -- ---- a track
 module _ (f : List ℕ) (full : ℕ) where
   -- all of it, and what the file has behind it
-  pub record Closes (P : List ℕ → Type 0) (at : ℕ) (v : Verdict) : Type 0 where
+  pub record Closes (P : List ℕ → Type 0) (at : ℕ) (v : Result (Unit {0}) Fault) : Type 0 where
     pub spelt : Spelt f P at full
     pub inside : full ≤ length f
     pub behind : rest_at f full ≡ v
 
   abbrev pub Tracked : ℕ → ℕ → Events → Type 0
-  Tracked running at (over verdict.Good) = Closes (λ (bytes : List ℕ). Track running bytes []) at verdict.Good
-  Tracked running at (over (verdict.Broken why)) = Cut f (min full (length f)) (TrackPart running) at why ⊎ Closes (λ (bytes : List ℕ). Track running bytes []) at (verdict.Broken why)
+  Tracked running at (over (Ok done)) = Closes (λ (bytes : List ℕ). Track running bytes []) at (Ok tt)
+  Tracked running at (over (Err why)) = Cut f (min full (length f)) (TrackPart running) at why ⊎ Closes (λ (bytes : List ℕ). Track running bytes []) at (Err why)
   Tracked running at (then ticks e next rest) =
       (status : ℕ) × Spelt f (λ (bytes : List ℕ). TimedBytes running bytes ticks e status) at next × (next ≤ min full (length f)) × Tracked status next rest
 
@@ -160,16 +157,16 @@ module _ (f : List ℕ) (full : ℕ) where
       there = s.there;
     }
 
-    closed : (v : Verdict) → Closes (λ (bytes : List ℕ). Track running bytes []) at v → Tracked running at (over v)
-    closed verdict.Good c = c
-    closed (verdict.Broken why) c = inr c
+    closed : (v : Result (Unit {0}) Fault) → Closes (λ (bytes : List ℕ). Track running bytes []) at v → Tracked running at (over v)
+    closed (Ok done) c = c
+    closed (Err why) c = inr c
 
     ends : (next : ℕ) → next ≤ min full (length f) → Spelt f (λ (bytes : List ℕ). Track running bytes []) at next → Tracked running at (over (behind_track f full next))
     unfolding behind_track refusal_of
     ends next room s =
-        both (λ (v : Verdict). Tracked running at (over v)) (ltb next (min full (length f))) _ _ (λ _. inl (whole_part next s, omega arith, refl))
+        both (λ (v : Result (Unit {0}) Fault). Tracked running at (over v)) (ltb next (min full (length f))) _ _ (λ _. inl (whole_part next s, omega arith, refl))
         (λ late. let k = ltb-false next (min full (length f)) late in
-        both (λ (v : Verdict). Tracked running at (over v)) (ltb (length f) full) _ _
+        both (λ (v : Result (Unit {0}) Fault). Tracked running at (over v)) (ltb (length f) full) _ _
         (λ short. let l = ltb-true (length f) full short in inl (subst (Spelt f (TrackPart running) at) (omega arith) (whole_part next s), omega arith, refl))
         (λ whole. let l = ltb-false (length f) full whole in
         closed (rest_at f full) (record { spelt = subst (Spelt f (λ (bytes : List ℕ). Track running bytes []) at) (omega arith) s; inside = l; behind = refl })))
@@ -180,19 +177,19 @@ module _ (f : List ℕ) (full : ℕ) where
   tracked (suc n) running at r room =
       go (step_at f (min full (length f)) running at) refl (steps f (min full (length f)) running at r room) (λ status next k up. tracked n status next k up)
     where
-      go : (s : Step) → step_at f (min full (length f)) running at ≡ s → Steps f (min full (length f)) running at s
+      go : (s : Result Step Fault) → step_at f (min full (length f)) running at ≡ s → Steps f (min full (length f)) running at s
           → ((status next : ℕ) → Running status → next ≤ min full (length f) → Tracked status next (events_from n f full status next)) → Tracked running at (events_on f full (events_from n f full) s)
-      go (step.Is ticks e status behind) is s more =
-          let up = (step-ends f (min full (length f)) running at (step.Is ticks e status behind) is).1 in
+      go (Ok (step.Is ticks e status behind)) is s more =
+          let up = (step-ends f (min full (length f)) running at (Ok (step.Is ticks e status behind)) is).1 in
           (status, s.1, up, more status behind s.0 up)
-      go (step.End behind) is s more = ends running at behind (step-ends f (min full (length f)) running at (step.End behind) is).1 s
-      go (step.Broken why) is s more = inl s
+      go (Ok (step.End behind)) is s more = ends running at behind (step-ends f (min full (length f)) running at (Ok (step.End behind)) is).1 s
+      go (Err why) is s more = inl s
 
   -- ---- a good one
-  pub good_track : (running at : ℕ) (es : Events) → Tracked running at es → last_of es ≡ verdict.Good → Closes (λ (bytes : List ℕ). Track running bytes (timed_of es)) at verdict.Good
+  pub good_track : (running at : ℕ) (es : Events) → Tracked running at es → last_of es ≡ (Ok tt) → Closes (λ (bytes : List ℕ). Track running bytes (timed_of es)) at (Ok tt)
   unfolding last_of timed_of
-  good_track running at (over verdict.Good) t e = t
-  good_track running at (over (verdict.Broken why)) t e = let z : ◌≡◌ {A = ℕ} 0 1 = cc in absurd (omega arith)
+  good_track running at (over (Ok done)) t e = t
+  good_track running at (over (Err why)) t e = let z : ◌≡◌ {A = ℕ} 0 1 = cc in absurd (omega arith)
   good_track running at (then ticks m next rest) (status, s, room, more) e =
       let c = good_track status next rest more e in
       record {
@@ -233,7 +230,7 @@ module _ (f : List ℕ) (full : ℕ) where
   abbrev pub Breaks : ℕ → ℕ → Fault → Type 0
   Breaks running at why =
       (Spelt f (TrackPart running) at why.at × (why.at ≤ min full (length f)) × (refusal_of why.reason ≢ 13))
-      ⊎ Closes (λ (bytes : List ℕ). (ts : List Timed) × Track running bytes ts) at (verdict.Broken why)
+      ⊎ Closes (λ (bytes : List ℕ). (ts : List Timed) × Track running bytes ts) at (Err why)
 
   -- behind an event
   later : (running at ticks : ℕ) (e : Event) (status next : ℕ) → Spelt f (λ (bytes : List ℕ). TimedBytes running bytes ticks e status) at next
@@ -261,13 +258,13 @@ module _ (f : List ℕ) (full : ℕ) where
       })
 
   pub broken_track : (rate division tempo sum running at : ℕ) (es : Events) → Tracked running at es → (why : Fault)
-      → (song_from rate division tempo sum es).verdict ≡ verdict.Broken why → Breaks running at why
+      → (song_from rate division tempo sum es).verdict ≡ Err why → Breaks running at why
   unfolding song_from refusal_of
-  broken_track rate division tempo sum running at (over verdict.Good) t why = λ e. let z : ◌≡◌ {A = ℕ} 0 1 = cc in absurd (omega arith)
-  broken_track rate division tempo sum running at (over (verdict.Broken w)) t why =
+  broken_track rate division tempo sum running at (over (Ok done)) t why = λ e. let z : ◌≡◌ {A = ℕ} 0 1 = cc in absurd (omega arith)
+  broken_track rate division tempo sum running at (over (Err w)) t why =
       λ e. subst (Breaks running at) (cc) (already t)
     where
-      already : Tracked running at (over (verdict.Broken w)) → Breaks running at w
+      already : Tracked running at (over (Err w)) → Breaks running at w
       already (inl (c, room, plain)) = inl (c, room, λ z. omega arith)
       already (inr c) = inr (record {
         spelt = record { bytes = c.spelt.bytes; is = ([], c.spelt.is); there = c.spelt.there };
@@ -275,7 +272,7 @@ module _ (f : List ℕ) (full : ℕ) where
         behind = c.behind;
       })
   broken_track rate division tempo sum running at (then ticks m next rest) (status, s, room, more) why =
-      both (λ (song : Song). song.verdict ≡ verdict.Broken why → Breaks running at why) (too_late (frame_at rate division (sum + ticks * tempo)) m) _ _
+      both (λ (song : Song). song.verdict ≡ Err why → Breaks running at why) (too_late (frame_at rate division (sum + ticks * tempo)) m) _ _
       (λ _ e.
       let is : fault_at LateFrame (next - 1) ≡ why = cc in
       subst (Breaks running at) is (inl (late_part running at ticks m status next s, omega arith, (λ z. omega arith))))

@@ -1,4 +1,5 @@
 -- What the grammar spells, the reader takes: tracks, chunks, the header and the file. Assumes nothing.
+use Rattle.std.specs.Prelude.{Option, Some, Result, Ok}
 use mathlib.Core.Path.{◌≡◌, refl, sym, ap, ◌∙◌, subst}
 use mathlib.Core.List.{List, [], ◌∷◌, ◌++◌}
 use Prim.Native.Nat.{ℕ, zero, suc, pred, ◌+◌, ◌-◌, ◌≤◌, ◌<◌, min}
@@ -10,11 +11,6 @@ use Rattle.smf.specs.Fields.{two_at, four_at}
 use Rattle.smf.specs.Files.{Events, header_type, track_type, fields_of, header_of, chunk_at, track_from, track_at, rest_at, behind_track, events_on, events_from, events_of}
 use Rattle.smf.specs.Files.Events.{then, over}
 use Rattle.smf.specs.Promised.{Timed, timed_of}
-use Rattle.smf.specs.declared.chunks.Opening.TheVariants as opening
-use Rattle.smf.specs.declared.chunks.Found.{Found}
-use Rattle.smf.specs.declared.chunks.Found.TheVariants as found
-use Rattle.smf.specs.declared.chunks.Verdict.{Verdict}
-use Rattle.smf.specs.declared.chunks.Verdict.TheVariants.{Good}
 use Rattle.smf.proofs.Searches.{track_on, track_over, behind_whole, track_long, events_found}
 use Rattle.song_grammar.specs.Grammar.{Track, Chunk, MThd, MTrk, Header, Aliens, File}
 use Rattle.song_grammar.specs.Grammar.Track.{ended, then as event_then}
@@ -24,9 +20,10 @@ use Rattle.song_grammar.specs.Grammar.Aliens.{none, alien}
 use Rattle.song_grammar.specs.Grammar.File.{file}
 use Rattle.song_grammar.proofs.Segments.{From, from_length, join, split, two_is, four_is}
 use Rattle.song_grammar.proofs.Taken.{some_bytes, step_taken, end_step}
+use Rattle.smf.specs.declared.faults.Fault.{Fault}
 
 -- what the events of a track end with
-unfoldable pub last_of : Events → Verdict
+unfoldable pub last_of : Events → Result (Unit {0}) Fault
 last_of (over v) = v
 last_of (then delta event next rest) = last_of rest
 
@@ -120,7 +117,7 @@ module _ (f : List ℕ) where
 
     -- a chunk of another type is passed
     pub passed : {a b c d : ℕ} {body : List ℕ} (at next : ℕ) → (a ∷ b ∷ c ∷ d ∷ [] ≡ MThd → ⊥) → (a ∷ b ∷ c ∷ d ∷ [] ≡ MTrk → ⊥) → Stands a b c d at body next
-        → next ≤ length f → (behind : ℕ → Found) → chunk_at f at behind ≡ behind next
+        → next ≤ length f → (behind : ℕ → Result (Option ℕ) Fault) → chunk_at f at behind ≡ behind next
     unfolding chunk_at number_of number_after
     passed {a} {b} {c} {d} {body} at next no_Header no_track s room behind =
         let ends = s.ends in
@@ -162,7 +159,7 @@ module _ (f : List ℕ) where
         }
 
     -- the track behind them, and none behind that
-    pub track_there : (n at next : ℕ) {body : List ℕ} → Stands 0x4D 0x54 0x72 0x6B at body next → next ≤ length f → length f - at ≤ n → track_from n f at ≡ found.Track at
+    pub track_there : (n at next : ℕ) {body : List ℕ} → Stands 0x4D 0x54 0x72 0x6B at body next → next ≤ length f → length f - at ≤ n → track_from n f at ≡ Ok (Some at)
     unfolding chunk_at number_of number_after
     track_there n at next {body} s room fuel =
         let ends = s.ends in
@@ -171,14 +168,14 @@ module _ (f : List ℕ) where
         let kind : four_at f at ≡ track_type = s.kind in
         track_on n f at k0 fuel ∙ (simp (lt-leb _ _ k0, le-ltb _ _ k4, kind))
 
-    pub nothing_behind : {bytes : List ℕ} → Aliens bytes → (at : ℕ) → From f at bytes (length f) → at ≤ length f → rest_at f at ≡ Good
+    pub nothing_behind : {bytes : List ℕ} → Aliens bytes → (at : ℕ) → From f at bytes (length f) → at ≤ length f → rest_at f at ≡ Ok tt
     unfolding rest_at track_at
     nothing_behind others at from room =
         let p = aliens_passed others (length f) at (length f) from (omega arith) (omega arith) in
         rw (p.same, track_over p.left f (length f) (omega arith))
 
     -- ---- the header
-    header_taken : {bytes : List ℕ} {division : ℕ} → Header bytes division → (next : ℕ) → From f 0 bytes next → next ≤ length f → header_of f ≡ opening.Is division next
+    header_taken : {bytes : List ℕ} {division : ℕ} → Header bytes division → (next : ℕ) → From f 0 bytes next → next ≤ length f → header_of f ≡ Ok (division, next)
     unfolding header_of fields_of number_of number_after
     header_taken (header {high} {low} {more} {bytes} small some k) next from room =
         let s = chunk_stands k 0 next from in
@@ -199,12 +196,12 @@ module _ (f : List ℕ) where
         let none : two_at f 12 ≡ 0 → ⊥ = (λ z. omega arith) in
         let whole : 8 + four_at f 4 ≤ length f = omega arith in
         simp (le-ltb _ _ k4, kind, le-ltb _ _ k8, le-ltb _ _ k6, le-ltb _ _ k10, format, le-ltb _ _ k12, tracks, le-ltb _ _ k14, lt-leb _ _ ticks, ne_eqb _ _ none, le-ltb _ _ whole)
-        (ap (λ (n : ℕ). opening.Is n (8 + four_at f 4)) division ∙ ap (opening.Is (number_of (high ∷ low ∷ []))) (omega arith))
+        (ap (λ (n : ℕ). Ok (n, 8 + four_at f 4)) division ∙ ap (λ (n : ℕ). Ok (number_of (high ∷ low ∷ []), n)) (omega arith))
 
     pub record FileTaken (division : ℕ) (ts : List Timed) : Type 0 where
       pub next : ℕ
-      pub opens : header_of f ≡ opening.Is division next
-      pub good : last_of (events_of f next) ≡ Good
+      pub opens : header_of f ≡ Ok (division, next)
+      pub good : last_of (events_of f next) ≡ Ok tt
       pub events : timed_of (events_of f next) ≡ ts
 
     pub file_taken : {bytes : List ℕ} {division : ℕ} {ts : List Timed} → File bytes division ts → From f 0 bytes (length f) → FileTaken division ts
@@ -222,7 +219,7 @@ module _ (f : List ℕ) where
         let size = there.size in
         let full : s₂.mid + 8 + four_at f (s₂.mid + 4) ≡ s₃.mid = omega arith in
         let is : events_of f s₁.mid ≡ events_from (length f) f s₃.mid 0 (s₂.mid + 8) =
-        events_found f s₁.mid (found.Track s₂.mid) (p.same ∙ track_there p.left s₂.mid s₃.mid there up₃ p.enough)
+        events_found f s₁.mid (Ok (Some s₂.mid)) (p.same ∙ track_there p.left s₂.mid s₃.mid there up₃ p.enough)
         ∙ track_long f s₂.mid (omega arith)
         ∙ ap (λ (n : ℕ). events_from (length f) f n 0 (s₂.mid + 8)) full in
         let taken = track_taken f s₃.mid t (length f) (s₂.mid + 8) s₃.mid there.inside (omega arith) (omega arith) in

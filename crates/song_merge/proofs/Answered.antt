@@ -1,4 +1,5 @@
 -- The answers of `merge`. Assumes nothing.
+use Rattle.std.specs.Prelude.{Result, Ok, Err}
 use mathlib.Core.Path.{◌≡◌, refl, sym, ap, ◌∙◌, subst}
 use mathlib.Core.List.{List, [], ◌∷◌, ◌++◌, append-nil}
 use mathlib.Core.Logic.{◌⊎◌, inl, inr}
@@ -19,15 +20,15 @@ use Rattle.song_grammar.specs.Grammar.Aliens.{none}
 use Rattle.song_grammar.specs.Grammar.File.{file}
 use Rattle.song_grammar.proofs.Segments.{From, join, split, whole_from, whole_is, before_is}
 use Rattle.song_grammar.proofs.Wholes.{Octets}
-use Rattle.song_merge.specs.declared.chunks.Opened.TheVariants as opened
-use Rattle.song_merge.specs.declared.merging.Gathered.{Gathered}
-use Rattle.song_merge.specs.declared.merging.Gathered.TheVariants as gathered
+use Rattle.song_merge.specs.declared.chunks.Opened.{Opened}
+use Rattle.song_merge.specs.declared.merging.Unmerged.{Unmerged}
+use Rattle.song_merge.specs.declared.merging.Unmerged.TheVariants as unmerged
 use Rattle.song_merge.specs.Songs.{Heading, Tracks, ManyTracks}
 use Rattle.song_merge.specs.Songs.ManyTracks.{songs}
 use Rattle.song_merge.specs.Merges.{merged_all}
 use Rattle.song_merge.specs.Written.{heading_bytes}
 use Rattle.song_merge.specs.Standing.{TrackStands}
-use Rattle.song_merge.specs.Headings.{opening_of}
+use Rattle.song_merge.specs.Headings.{opened, opening_of}
 use Rattle.song_merge.specs.Gathers.{TracksFrom, GathersTracks}
 use Rattle.song_merge.specs.Answers.{Answers}
 use Rattle.song_merge.proofs.Bytes.{bytes_from, bytes_are, bytes_long, bytes_after, from_sets, sets_long}
@@ -87,7 +88,7 @@ module _ (out out' : List ℕ) (division end : ℕ) (ts : List Timed) where
 module _ (f : List ℕ) (octets : Octets f) where
   pub record Parts (division : ℕ) (tss : List (List Timed)) : Type 0 where
     pub next : ℕ
-    pub opening : opening_of f ≡ opened.Is division (length tss) next
+    pub opening : opening_of f ≡ opened division (length tss) next
     pub counted : TracksFrom f next (length tss) tss
 
   parts_of : {bytes : List ℕ} {division : ℕ} {tss : List (List Timed)} → ManyTracks bytes division tss → From f 0 bytes (length f) → Parts division tss
@@ -102,7 +103,7 @@ module _ (f : List ℕ) (octets : Octets f) where
   parts : (division : ℕ) (tss : List (List Timed)) → ManyTracks f division tss → Parts division tss
   parts division tss s = parts_of s (whole_from f)
 
-  song_of : (division count next : ℕ) (tss : List (List Timed)) → opening_of f ≡ opened.Is division count next → TracksFrom f next count tss → ManyTracks f division tss
+  song_of : (division count next : ℕ) (tss : List (List Timed)) → opening_of f ≡ opened division count next → TracksFrom f next count tss → ManyTracks f division tss
   song_of division count next tss e (t, n) =
       let o = opens f octets division count next e in
       let head = o.head in
@@ -114,7 +115,7 @@ module _ (f : List ℕ) (octets : Octets f) where
   -- ---- the answers
   module _ (spare : ℕ) (out : List ℕ) where
     -- a header that is refused
-    pub refused_heading : (why : Fault) → opening_of f ≡ opened.Broken why → Answers f spare out (record { length = 0; number = refusal_of why.reason })
+    pub refused_heading : (why : Fault) → opening_of f ≡ Err why → Answers f spare out (record { length = 0; number = refusal_of why.reason })
     refused_heading why e = record {
       told = λ n. absurd (low n);
       taken = λ d tss s. absurd (no_song d tss s);
@@ -132,7 +133,7 @@ module _ (f : List ℕ) (octets : Octets f) where
         no_song : (division : ℕ) (tss : List (List Timed)) → ManyTracks f division tss → ⊥
         no_song division tss s = let p = parts division tss s in let o = p.opening in let z : ◌≡◌ {A = ℕ} 0 1 = cc in omega arith
 
-    module _ (division count next : ℕ) (e : opening_of f ≡ opened.Is division count next) where
+    module _ (division count next : ℕ) (e : opening_of f ≡ opened division count next) where
       pub in_file : next ≤ length f
       in_file = (opens f octets division count next e).room
 
@@ -144,15 +145,16 @@ module _ (f : List ℕ) (octets : Octets f) where
       counted_of d tss s =
           let p = parts d tss s in
           let o = p.opening in
-          let same_d : d ≡ division = cc in
-          let same_c : length tss ≡ count = cc in
-          let same_n : p.next ≡ next = cc in
+          let same : ◌≡◌ {A = Opened} (record { division = d; count = length tss; next = p.next }) (record { division = division; count = count; next = next }) = cc in
+          let same_d : d ≡ division = ap (λ (x : Opened). x.division) same in
+          let same_c : length tss ≡ count = ap (λ (x : Opened). x.count) same in
+          let same_n : p.next ≡ next = ap (λ (x : Opened). x.next) same in
           (same_d, (subst (λ (n : ℕ). Tracks (bytes_at (length f - n) f n) tss) same_n p.counted.0, same_c))
 
-      no_broken : {A : Type 0} (why : Fault) → opening_of f ≡ opened.Broken why → A
+      no_broken : {A : Type 0} (why : Fault) → opening_of f ≡ Err why → A
       no_broken why k = absurd (let z : ◌≡◌ {A = ℕ} 0 1 = cc in omega arith)
 
-      pub refused_tracks : GathersTracks f count next spare out gathered.Broken → Answers f spare out (record { length = 0; number = 12 })
+      pub refused_tracks : GathersTracks f count next spare out (Err unmerged.Broken) → Answers f spare out (record { length = 0; number = 12 })
       refused_tracks g = record {
         told = λ n. absurd (low n);
         taken = λ d tss s. absurd (no_song d tss s);
@@ -170,7 +172,7 @@ module _ (f : List ℕ) (octets : Octets f) where
           no_song : (d : ℕ) (tss : List (List Timed)) → ManyTracks f d tss → ⊥
           no_song d tss s = g.taken tss (counted_of d tss s).1 refl
 
-      song : (r : Gathered) → GathersTracks f count next spare out r → (r ≡ gathered.Broken → ⊥) → (division : ℕ) × (tss : List (List Timed)) × ManyTracks f division tss
+      song : (r : Result ℕ Unmerged) → GathersTracks f count next spare out r → (r ≡ Err unmerged.Broken → ⊥) → (division : ℕ) × (tss : List (List Timed)) × ManyTracks f division tss
       song r g good = let (tss, c) = g.told good in (division, tss, song_of division count next tss e c)
 
       -- some tracks stand behind the header
@@ -181,9 +183,9 @@ module _ (f : List ℕ) (octets : Octets f) where
           go (inl (nothing, is)) = let z = ap length is in absurd (omega arith)
           go (inr (ts, uss, is, f₁)) = let a = f₁.low in let b = f₁.is in let c = f₁.room in omega arith
 
-      pub no_room : GathersTracks f count next spare out gathered.Short → Answers f spare out (record { length = 2 * length f; number = 8 })
+      pub no_room : GathersTracks f count next spare out (Err unmerged.Short) → Answers f spare out (record { length = 2 * length f; number = 8 })
       no_room g = record {
-        told = λ _. song gathered.Short g (λ k. let z : ◌≡◌ {A = ℕ} 0 1 = cc in omega arith);
+        told = λ _. song (Err unmerged.Short) g (λ k. let z : ◌≡◌ {A = ℕ} 0 1 = cc in omega arith);
         taken = λ d tss s. inr refl;
         merged = λ d tss s n. absurd (omega arith);
         short = λ _. refl;
@@ -196,15 +198,15 @@ module _ (f : List ℕ) (octets : Octets f) where
       }
 
       -- what is known of a merged track
-      pub fits : (end : ℕ) → GathersTracks f count next spare out (gathered.To end) → (22 ≤ end) × (end ≤ length out) × (end < 2 ^ 32)
+      pub fits : (end : ℕ) → GathersTracks f count next spare out (Ok end) → (22 ≤ end) × (end ≤ length out) × (end < 2 ^ 32)
       fits end g =
           let (tss, c) = g.told (λ k. let z : ◌≡◌ {A = ℕ} 0 1 = cc in omega arith) in
           let m = g.merged tss c end refl in
           (m.0, m.1, m.2)
 
-      pub done : (end : ℕ) → GathersTracks f count next spare out (gathered.To end) → (out' : List ℕ) → out' ≡ sets out 0 (heading_bytes division (end - 22)) → Answers f spare out' (record { length = end; number = 0 })
+      pub done : (end : ℕ) → GathersTracks f count next spare out (Ok end) → (out' : List ℕ) → out' ≡ sets out 0 (heading_bytes division (end - 22)) → Answers f spare out' (record { length = end; number = 0 })
       done end g out' stored = record {
-        told = λ _. song (gathered.To end) g (λ k. let z : ◌≡◌ {A = ℕ} 0 1 = cc in omega arith);
+        told = λ _. song (Ok end) g (λ k. let z : ◌≡◌ {A = ℕ} 0 1 = cc in omega arith);
         taken = λ d tss s. inl refl;
         merged = λ d tss s n.
             let (same, c) = counted_of d tss s in

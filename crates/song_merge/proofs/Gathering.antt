@@ -1,4 +1,5 @@
 -- The tracks of a file, one after another. Assumes nothing.
+use Rattle.std.specs.Prelude.{Option, Some, None, Result, Ok, Err}
 use mathlib.Core.Path.{◌≡◌, refl, sym, ap, ◌∙◌, subst}
 use mathlib.Core.List.{List, [], ◌∷◌, ◌++◌}
 use mathlib.Core.Logic.{◌⊎◌, inl, inr}
@@ -11,15 +12,13 @@ use Rattle.octets.specs.Octets.{bytes_at}
 use Rattle.smf.specs.Fields.{four_at}
 use Rattle.smf.specs.Files.{track_at}
 use Rattle.smf.specs.Promised.{Timed}
-use Rattle.smf.specs.declared.chunks.Found.{Found}
-use Rattle.smf.specs.declared.chunks.Found.TheVariants as found
 use Rattle.smf.proofs.Inside.{both}
 use Rattle.smf.proofs.Searches.{track_over}
 use Rattle.song_grammar.specs.Grammar.{Track, MTrk, Aliens}
 use Rattle.song_grammar.proofs.Segments.{From, from_length, join, split}
 use Rattle.song_grammar.proofs.Chunks.{Chunked, chunked, chunk_there, Searched, search}
 use Rattle.song_grammar.proofs.Wholes.{Octets, chunk_stands, aliens_passed, track_there}
-use Rattle.song_merge.specs.declared.merging.Gathered.TheVariants.{To, Short, Broken}
+use Rattle.song_merge.specs.declared.merging.Unmerged.TheVariants.{Short, Broken}
 use Rattle.song_merge.specs.Songs.{Tracks}
 use Rattle.song_merge.specs.Songs.Tracks.{none, track}
 use Rattle.song_merge.specs.Merges.{merged_of, merged_with, merged_all}
@@ -27,6 +26,7 @@ use Rattle.song_merge.specs.Standing.{TrackStands, Held, ChunkEnd}
 use Rattle.song_merge.specs.Gathers.{Grown, Started, gathered_to, TracksFrom, GathersTracks}
 use Rattle.song_merge.proofs.Bytes.{bytes_from, bytes_are, bytes_long}
 use Rattle.song_merge.proofs.Tracks.{sized_of, track_of}
+use Rattle.smf.specs.declared.faults.Fault.{Fault}
 
 up_to : (n b : ℕ) → (0 < n → n ≤ b) → n ≤ b
 up_to zero b h = omega arith
@@ -45,7 +45,7 @@ module _ (f : List ℕ) where
   pub record First (place : ℕ) (ts : List Timed) (tss : List (List Timed)) : Type 0 where
     pub chunk : ℕ
     pub end : ℕ
-    pub is_found : track_at f place ≡ found.Track chunk
+    pub is_found : track_at f place ≡ Ok (Some chunk)
     pub low : place ≤ chunk
     pub is : end ≡ chunk + 8 + four_at f (chunk + 4)
     pub room : end ≤ length f
@@ -53,7 +53,7 @@ module _ (f : List ℕ) where
     pub rest : Behind end tss
 
   abbrev pub Firsts : ℕ → List (List Timed) → Type 0
-  Firsts place tss = ((track_at f place ≡ found.Nothing) × (tss ≡ [])) ⊎ ((ts : List Timed) × (uss : List (List Timed)) × (tss ≡ ts ∷ uss) × First place ts uss)
+  Firsts place tss = ((track_at f place ≡ Ok None) × (tss ≡ [])) ⊎ ((ts : List Timed) × (uss : List (List Timed)) × (tss ≡ ts ∷ uss) × First place ts uss)
 
   -- ---- between two tracks
   module _ (count at spare : ℕ) where
@@ -116,19 +116,19 @@ module _ (f : List ℕ) (octets : Octets f) where
   firsts place tss room t = first_of t place room (bytes_from f place (length f) room)
 
   -- ---- what is found the grammar spells
-  searched : (place : ℕ) (r : Found) → place ≤ length f → track_at f place ≡ r → Searched f octets place r
+  searched : (place : ℕ) (r : Result (Option ℕ) Fault) → place ≤ length f → track_at f place ≡ r → Searched f octets place r
   unfolding track_at
   searched place r room e = subst (Searched f octets place) e (search f octets (length f) place room (omega arith))
 
-  pub back_none : (place : ℕ) → place ≤ length f → track_at f place ≡ found.Nothing → Behind f place []
+  pub back_none : (place : ℕ) → place ≤ length f → track_at f place ≡ (Ok None) → Behind f place []
   back_none place room e =
-      let s = searched place found.Nothing room e in
+      let s = searched place (Ok None) room e in
       none (subst Aliens (sym (bytes_are f s.bytes place (length f) s.there)) s.is)
 
-  pub back_one : (place chunk end : ℕ) (ts : List Timed) (tss : List (List Timed)) → place ≤ length f → track_at f place ≡ found.Track chunk
+  pub back_one : (place chunk end : ℕ) (ts : List Timed) (tss : List (List Timed)) → place ≤ length f → track_at f place ≡ Ok (Some chunk)
       → end ≡ chunk + 8 + four_at f (chunk + 4) → end ≤ length f → TrackStands f (chunk + 8) end ts → Behind f end tss → Behind f place (ts ∷ tss)
   back_one place chunk end ts tss room e is up t more =
-      let (others, type, inside) = searched place (found.Track chunk) room e in
+      let (others, type, inside) = searched place (Ok (Some chunk)) room e in
       let body = bytes_at (end - (chunk + 8)) f (chunk + 8) in
       let rest = bytes_at (length f - end) f end in
       let long : four_at f (chunk + 4) ≡ length body = omega (arith, bytes_long f (end - (chunk + 8)) (chunk + 8)) in
@@ -138,9 +138,9 @@ module _ (f : List ℕ) (octets : Octets f) where
       subst (λ (l : List ℕ). Tracks l (ts ∷ tss)) (sym (bytes_are f (others.bytes ++ (bytes ++ rest)) place (length f) all))
       (track others.is (chunked f chunk MTrk type body long) t more)
 
-  pub found_inside : (place chunk : ℕ) → place ≤ length f → track_at f place ≡ found.Track chunk → (place ≤ chunk) × (chunk + 4 ≤ length f)
+  pub found_inside : (place chunk : ℕ) → place ≤ length f → track_at f place ≡ Ok (Some chunk) → (place ≤ chunk) × (chunk + 4 ≤ length f)
   found_inside place chunk room e =
-      let (others, type, inside) = searched place (found.Track chunk) room e in
+      let (others, type, inside) = searched place (Ok (Some chunk)) room e in
       (omega (arith, from_length f place others.bytes chunk others.there), inside)
 
   -- ---- between two tracks
@@ -169,7 +169,7 @@ module _ (f : List ℕ) (octets : Octets f) where
     }
 
     module _ (before out : List ℕ) (place end i : ℕ) (r : Round f count at spare before out place end i) where
-      broken : ((uss : List (List Timed)) → TracksFrom f at count uss → ⊥) → GathersTracks f count at spare out Broken
+      broken : ((uss : List (List Timed)) → TracksFrom f at count uss → ⊥) → GathersTracks f count at spare out (Err Broken)
       broken h = record {
         told = λ no. absurd (no refl);
         taken = λ uss c e. h uss c;
@@ -177,14 +177,14 @@ module _ (f : List ℕ) (octets : Octets f) where
         room = λ uss c. absurd (h uss c);
       }
 
-      pub no_track : i < count → (q : Found) → track_at f place ≡ q → ((chunk : ℕ) → q ≡ found.Track chunk → ⊥) → GathersTracks f count at spare out Broken
+      pub no_track : i < count → (q : Result (Option ℕ) Fault) → track_at f place ≡ q → ((chunk : ℕ) → q ≡ Ok (Some chunk) → ⊥) → GathersTracks f count at spare out (Err Broken)
       no_track more q e other = broken (λ uss c. let l = r.on uss c in go l (firsts place l.tss r.room l.rest))
         where
           go : {uss : List (List Timed)} (l : Left f count at spare out place end i uss) → Firsts f place l.tss → ⊥
           go l (inl (nothing, is)) = let n = l.number in let z = ap length is in omega arith
           go l (inr (ts, tss, is, f₁)) = other f₁.chunk (sym e ∙ f₁.is_found)
 
-      pub no_chunk : i < count → (chunk : ℕ) → track_at f place ≡ found.Track chunk → ChunkEnd f chunk 0 → GathersTracks f count at spare out Broken
+      pub no_chunk : i < count → (chunk : ℕ) → track_at f place ≡ Ok (Some chunk) → ChunkEnd f chunk 0 → GathersTracks f count at spare out (Err Broken)
       no_chunk more chunk e c₀ = broken (λ uss c. let l = r.on uss c in go l (firsts place l.tss r.room l.rest))
         where
           go : {uss : List (List Timed)} (l : Left f count at spare out place end i uss) → Firsts f place l.tss → ⊥
@@ -196,7 +196,7 @@ module _ (f : List ℕ) (octets : Octets f) where
               omega (arith, c₀.taken ts f₁.end end_is f₁.room (subst (λ (n : ℕ). TrackStands f (n + 8) f₁.end ts) same f₁.stands))
 
       -- one more
-      module _ (chunk full : ℕ) (e : track_at f place ≡ found.Track chunk) (c₁ : ChunkEnd f chunk full) (real : 0 < full) (out' : List ℕ) (end' : ℕ) (g : Grown out end f (chunk + 8) full spare out' end') (same_long : length out' ≡ length out) where
+      module _ (chunk full : ℕ) (e : track_at f place ≡ Ok (Some chunk)) (c₁ : ChunkEnd f chunk full) (real : 0 < full) (out' : List ℕ) (end' : ℕ) (g : Grown out end f (chunk + 8) full spare out' end') (same_long : length out' ≡ length out) where
         joined : {uss : List (List Timed)} → Left f count at spare out place end i uss → Left f count at spare out' full end' (i + 1) uss
         unfolding merged_with
         joined {uss} l = go (firsts place l.tss r.room l.rest)
@@ -249,24 +249,24 @@ module _ (f : List ℕ) (octets : Octets f) where
 
       -- the last
       module _ (done : count ≤ i) where
-        all : (uss : List (List Timed)) → TracksFrom f at count uss → (track_at f place ≡ found.Nothing) × (l : Left f count at spare out place end i uss) × (l.tss ≡ [])
+        all : (uss : List (List Timed)) → TracksFrom f at count uss → (track_at f place ≡ Ok None) × (l : Left f count at spare out place end i uss) × (l.tss ≡ [])
         all uss c = let l = r.on uss c in go l (firsts place l.tss r.room l.rest)
           where
-            go : (l : Left f count at spare out place end i uss) → Firsts f place l.tss → (track_at f place ≡ found.Nothing) × (l : Left f count at spare out place end i uss) × (l.tss ≡ [])
+            go : (l : Left f count at spare out place end i uss) → Firsts f place l.tss → (track_at f place ≡ Ok None) × (l : Left f count at spare out place end i uss) × (l.tss ≡ [])
             go l (inl (nothing, is)) = (nothing, l, is)
             go l (inr (ts, tss, is, f₁)) = let n = l.number in let z = ap length is in absurd (omega arith)
 
-        no_more : (q : Found) → track_at f place ≡ q → (q ≡ found.Nothing → ⊥) → GathersTracks f count at spare out Broken
+        no_more : (q : Result (Option ℕ) Fault) → track_at f place ≡ q → (q ≡ (Ok None) → ⊥) → GathersTracks f count at spare out (Err Broken)
         no_more q e other = broken (λ uss c. other (sym e ∙ (all uss c).0))
 
-        module _ (nothing : track_at f place ≡ found.Nothing) where
+        module _ (nothing : track_at f place ≡ Ok None) where
           told : (uss : List (List Timed)) × TracksFrom f at count uss
           told =
               let (uss, u, n) = r.back [] (back_none place r.room nothing) in
               let few = r.few in
               (uss, (u, omega arith))
 
-          short : ((uss : List (List Timed)) → TracksFrom f at count uss → 14 ≤ at → at < length f → 2 * length f ≤ spare → 2 * length f ≤ length out → length f < 2 ^ 31 → ⊥) → GathersTracks f count at spare out Short
+          short : ((uss : List (List Timed)) → TracksFrom f at count uss → 14 ≤ at → at < length f → 2 * length f ≤ spare → 2 * length f ≤ length out → length f < 2 ^ 31 → ⊥) → GathersTracks f count at spare out (Err Short)
           short h = record {
             told = λ _. told;
             taken = λ uss c e. let z : ◌≡◌ {A = ℕ} 0 1 = cc in omega arith;
@@ -274,13 +274,13 @@ module _ (f : List ℕ) (octets : Octets f) where
             room = λ uss c p q s t u _. h uss c p q s t u;
           }
 
-          no_end : end ≡ 0 → GathersTracks f count at spare out Short
+          no_end : end ≡ 0 → GathersTracks f count at spare out (Err Short)
           no_end e = short (λ uss c p q s t u. omega (arith, (all uss c).1.roomy p q s t))
 
-          too_long : 0xFFFFFFFF < end → GathersTracks f count at spare out Short
+          too_long : 0xFFFFFFFF < end → GathersTracks f count at spare out (Err Short)
           too_long e = short (λ uss c p q s t u. let l = (all uss c).1 in let size = l.size in let long = l.long in let room = r.room in omega arith)
 
-          ends : 0 < end → end ≤ 0xFFFFFFFF → GathersTracks f count at spare out (To end)
+          ends : 0 < end → end ≤ 0xFFFFFFFF → GathersTracks f count at spare out (Ok end)
           unfolding merged_with
           ends some high = record {
             told = λ _. told;
@@ -300,10 +300,10 @@ module _ (f : List ℕ) (octets : Octets f) where
         unfolding gathered_to
         closes = go (track_at f place) refl
           where
-            go : (q : Found) → track_at f place ≡ q → GathersTracks f count at spare out (gathered_to q end)
-            go (found.Track chunk) e = no_more (found.Track chunk) e (λ k. let z : ◌≡◌ {A = ℕ} 0 1 = cc in omega arith)
-            go (found.Broken why) e = no_more (found.Broken why) e (λ k. let z : ◌≡◌ {A = ℕ} 0 1 = cc in omega arith)
-            go found.Nothing e =
+            go : (q : Result (Option ℕ) Fault) → track_at f place ≡ q → GathersTracks f count at spare out (gathered_to q end)
+            go (Ok (Some chunk)) e = no_more (Ok (Some chunk)) e (λ k. let z : ◌≡◌ {A = ℕ} 0 1 = cc in omega arith)
+            go (Err why) e = no_more (Err why) e (λ k. let z : ◌≡◌ {A = ℕ} 0 1 = cc in omega arith)
+            go (Ok None) e =
                 both (GathersTracks f count at spare out) (eqb end 0) _ _ (λ k. no_end e (eqb-true end 0 k))
                 (λ k. both (GathersTracks f count at spare out) (ltb 0xFFFFFFFF end) _ _ (λ h. too_long e (ltb-true 0xFFFFFFFF end h))
                 (λ h. ends e (positive end (eqb-false end 0 k)) (ltb-false 0xFFFFFFFF end h)))

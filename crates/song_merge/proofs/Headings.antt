@@ -1,4 +1,5 @@
 -- The header of a song of format 1: what is taken the grammar spells, and the other way. Assumes nothing.
+use Rattle.std.specs.Prelude.{Ok, Err}
 use mathlib.Core.Path.{◌≡◌, refl, sym, ap, ◌∙◌, subst}
 use mathlib.Core.Bool.{Bool, true, false, not}
 use mathlib.Core.List.{List, [], ◌∷◌}
@@ -16,11 +17,9 @@ use Rattle.song_grammar.proofs.Segments.{From, two_is}
 use Rattle.song_grammar.proofs.Shown.{Spelt}
 use Rattle.song_grammar.proofs.Chunks.{Four, four_there, Chunked, chunked, chunk_there, named, two_number}
 use Rattle.song_grammar.proofs.Wholes.{Octets, chunk_stands}
-use Rattle.song_merge.specs.declared.chunks.Opened.{Opened}
-use Rattle.song_merge.specs.declared.chunks.Opened.TheVariants.{Is, Broken}
 use Rattle.song_merge.specs.Songs.{Heading}
 use Rattle.song_merge.specs.Songs.Heading.{heading}
-use Rattle.song_merge.specs.Headings.{fields_of, opening_of}
+use Rattle.song_merge.specs.Headings.{Opening, opened, fields_of, opening_of}
 use Rattle.song_merge.proofs.Bytes.{bytes_from, bytes_long}
 
 not-not : (b : Bool) → not b ≡ false → b ≡ true
@@ -32,7 +31,7 @@ positive zero h = absurd (h refl)
 positive (suc n) h = omega arith
 
 module _ (f : List ℕ) (octets : Octets f) where
-  pub heading_taken : {bytes : List ℕ} {division count : ℕ} → Heading bytes division count → (next : ℕ) → From f 0 bytes next → next ≤ length f → opening_of f ≡ Is division count next
+  pub heading_taken : {bytes : List ℕ} {division count : ℕ} → Heading bytes division count → (next : ℕ) → From f 0 bytes next → next ≤ length f → opening_of f ≡ opened division count next
   unfolding opening_of fields_of number_of number_after
   heading_taken (heading {m} {n} {high} {low} {more} {bytes} tracks small some k) next from room =
       let s = chunk_stands f k 0 next from in
@@ -54,9 +53,9 @@ module _ (f : List ℕ) (octets : Octets f) where
       let no_tracks : two_at f 10 ≡ 0 → ⊥ = (λ z. omega arith) in
       let whole : 8 + four_at f 4 ≤ length f = omega arith in
       simp (le-ltb _ _ k4, kind, le-ltb _ _ k8, le-ltb _ _ k6, le-ltb _ _ k10, format, le-ltb _ _ k12, ne_eqb _ _ no_tracks, le-ltb _ _ k14, lt-leb _ _ ticks, ne_eqb _ _ none, le-ltb _ _ whole)
-      (ap (λ (d : ℕ). Is d (two_at f 10) (8 + four_at f 4)) division
-      ∙ ap (λ (c : ℕ). Is (number_of (high ∷ low ∷ [])) c (8 + four_at f 4)) count
-      ∙ ap (Is (number_of (high ∷ low ∷ [])) (number_of (m ∷ n ∷ []))) (omega arith))
+      (ap (λ (d : ℕ). opened d (two_at f 10) (8 + four_at f 4)) division
+      ∙ ap (λ (c : ℕ). opened (number_of (high ∷ low ∷ [])) c (8 + four_at f 4)) count
+      ∙ ap (opened (number_of (high ∷ low ∷ [])) (number_of (m ∷ n ∷ []))) (omega arith))
 
   -- ---- the other way
   pub record Opens (division count next : ℕ) : Type 0 where
@@ -67,9 +66,9 @@ module _ (f : List ℕ) (octets : Octets f) where
     pub tracks : 0 < count
     pub small : division < 0x8000
 
-  abbrev OpensAs : Opened → Type 0
-  OpensAs (Is division count next) = Opens division count next
-  OpensAs (Broken why) = Unit {0}
+  abbrev OpensAs : Opening → Type 0
+  OpensAs (Ok o) = Opens o.division o.count o.next
+  OpensAs (Err why) = Unit {0}
 
   fields_open : From f 0 MThd 4 → 6 ≤ four_at f 4 → 8 ≤ length f → OpensAs (fields_of f (four_at f 4))
   unfolding fields_of two_at number_of number_after
@@ -114,5 +113,5 @@ module _ (f : List ℕ) (octets : Octets f) where
       let kind : Four f 0 ≡ MThd = named f octets 0 0x4D 0x54 0x68 0x64 (omega arith) (eqb-true (four_at f 0) header_type (not-not (eqb (four_at f 0) header_type) same)) in
       fields_open (subst (λ (l : List ℕ). From f 0 l 4) kind (four_there f 0)) (ltb-false (four_at f 4) 6 six) (ltb-false (length f) 8 k8)))))
 
-  pub opens : (division count next : ℕ) → opening_of f ≡ Is division count next → Opens division count next
+  pub opens : (division count next : ℕ) → opening_of f ≡ opened division count next → Opens division count next
   opens division count next e = subst OpensAs e opens_as

@@ -1,4 +1,5 @@
 -- What a cursor sees. Assumes nothing.
+use Rattle.std.specs.Prelude.{Result, Ok, Err}
 use mathlib.Core.Path.{◌≡◌, refl, sym, ap, ◌∙◌, subst}
 use mathlib.Core.Bool.{true, false}
 use mathlib.Core.List.{List, [], ◌∷◌, ◌++◌}
@@ -11,10 +12,8 @@ use Rattle.octets.specs.Octets.{byte_at, bytes_at}
 use Rattle.smf.specs.Fields.{quantity_at}
 use Rattle.smf.specs.Events.{event_at}
 use Rattle.smf.specs.Promised.{Timed}
-use Rattle.smf.specs.declared.fields.Quantity as fields
-use Rattle.smf.specs.declared.fields.Quantity.TheVariants as quantity
 use Rattle.smf.specs.declared.events.Read.{Read}
-use Rattle.smf.specs.declared.events.Read.TheVariants.{Is, End, Broken}
+use Rattle.smf.specs.declared.events.Read.TheVariants.{Is, End}
 use Rattle.smf.proofs.Inside.{both, Inside, event_inside, quantity_ends}
 use Rattle.song_grammar.specs.Grammar.{OneEvent}
 use Rattle.song_grammar.proofs.Segments.{From, from_length, split}
@@ -27,6 +26,7 @@ use Rattle.song_merge.specs.Standing.{TrackSized, Held, Before, Views, CursorPla
 use Rattle.song_merge.specs.Standing.TrackSized.{ended, then}
 use Rattle.song_merge.proofs.Bytes.{bytes_from, bytes_are, bytes_long}
 use Rattle.song_merge.proofs.Deltas.{digits_small, shortest}
+use Rattle.smf.specs.declared.faults.Fault.{Fault}
 
 -- ---- the cursor that is made
 abbrev pub over_at : ℕ → ℕ → Cursor
@@ -35,14 +35,14 @@ over_at wait at = record { ended = true; wait = wait; before = 0; after = 0; fro
 abbrev pub going_at : ℕ → ℕ → ℕ → ℕ → ℕ → Cursor
 going_at wait running status from behind = record { ended = false; wait = wait; before = running; after = status; from = from; next = behind }
 
-abbrev pub look_read : ℕ → ℕ → ℕ → ℕ → Read → Cursor
-look_read running at wait from (Is event status behind) = going_at wait running status from behind
-look_read running at wait from (End behind) = over_at wait at
-look_read running at wait from (Broken why) = over_at 0 at
+abbrev pub look_read : ℕ → ℕ → ℕ → ℕ → Result Read Fault → Cursor
+look_read running at wait from (Ok (Is event status behind)) = going_at wait running status from behind
+look_read running at wait from (Ok (End behind)) = over_at wait at
+look_read running at wait from (Err why) = over_at 0 at
 
-abbrev pub look_quantity : List ℕ → ℕ → ℕ → ℕ → fields.Quantity → Cursor
-look_quantity f end running at (quantity.Is wait from) = look_read running at wait from (event_at f end running from)
-look_quantity f end running at (quantity.Broken why) = over_at 0 at
+abbrev pub look_quantity : List ℕ → ℕ → ℕ → ℕ → Result (ℕ × ℕ) Fault → Cursor
+look_quantity f end running at (Ok (wait, from)) = look_read running at wait from (event_at f end running from)
+look_quantity f end running at (Err why) = over_at 0 at
 
 abbrev pub look_of : List ℕ → ℕ → ℕ → ℕ → Cursor
 look_of f end running at = look_quantity f end running at (quantity_at f end at)
@@ -97,20 +97,20 @@ module _ (f : List ℕ) (octets : Octets f) (end running at : ℕ) where
       })
 
   -- ---- and lies where it should
-  read_placed : (wait from : ℕ) → at < from → wait < 2 ^ 28 → (r : Read) → Inside end from r → CursorPlaced end at (look_read running at wait from r)
-  read_placed wait from h small (Is event status behind) k = record { small = small; up = omega arith; low = omega arith; going = λ _. (omega arith, k.1) }
-  read_placed wait from h small (End behind) k = record { small = small; up = omega arith; low = omega arith; going = λ e. let z : ◌≡◌ {A = ℕ} 0 1 = cc in absurd (omega arith) }
-  read_placed wait from h small (Broken why) k = record { small = omega arith; up = omega arith; low = omega arith; going = λ e. let z : ◌≡◌ {A = ℕ} 0 1 = cc in absurd (omega arith) }
+  read_placed : (wait from : ℕ) → at < from → wait < 2 ^ 28 → (r : Result Read Fault) → Inside end from r → CursorPlaced end at (look_read running at wait from r)
+  read_placed wait from h small (Ok (Is event status behind)) k = record { small = small; up = omega arith; low = omega arith; going = λ _. (omega arith, k.1) }
+  read_placed wait from h small (Ok (End behind)) k = record { small = small; up = omega arith; low = omega arith; going = λ e. let z : ◌≡◌ {A = ℕ} 0 1 = cc in absurd (omega arith) }
+  read_placed wait from h small (Err why) k = record { small = omega arith; up = omega arith; low = omega arith; going = λ e. let z : ◌≡◌ {A = ℕ} 0 1 = cc in absurd (omega arith) }
 
   placed : CursorPlaced end at (look_of f end running at)
   placed = go (quantity_at f end at) refl
     where
-      go : (q : fields.Quantity) → quantity_at f end at ≡ q → CursorPlaced end at (look_quantity f end running at q)
-      go (quantity.Is wait from) is =
+      go : (q : Result (ℕ × ℕ) Fault) → quantity_at f end at ≡ q → CursorPlaced end at (look_quantity f end running at q)
+      go (Ok (wait, from)) is =
           let ends = quantity_ends f end at wait from is in
           let c = subst (Counts f end 3 0 at) is (counts f end 3 0 at (omega arith)) in
           read_placed wait from ends.0 (digits_small f octets c.is at from c.there) (event_at f end running from) (event_inside f end running from)
-      go (quantity.Broken why) is = record { small = omega arith; up = omega arith; low = omega arith; going = λ e. let z : ◌≡◌ {A = ℕ} 0 1 = cc in absurd (omega arith) }
+      go (Err why) is = record { small = omega arith; up = omega arith; low = omega arith; going = λ e. let z : ◌≡◌ {A = ℕ} 0 1 = cc in absurd (omega arith) }
 
   some : {bytes : List ℕ} {ts : List Timed} {k : ℕ} → TrackSized running bytes ts k → 0 < length bytes
   some (ended {delta = delta} {size = size} body q r fits) = omega (arith, some_bytes f end q, length-append delta (0xFF ∷ 0x2F ∷ (size ++ body)))

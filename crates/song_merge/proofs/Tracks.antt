@@ -1,4 +1,5 @@
 -- A track that stands in a list of bytes: read step by step, written out, and copied. Assumes nothing.
+use Rattle.std.specs.Prelude.{Result, Ok, Err}
 use mathlib.Core.Path.{◌≡◌, refl, sym, ap, ◌∙◌, subst}
 use mathlib.Core.Bool.{Bool, true, false}
 use mathlib.Core.List.{List, [], ◌∷◌, ◌++◌}
@@ -41,11 +42,11 @@ module _ (f : List ℕ) (end : ℕ) where
 
   pub record Onward (running place : ℕ) (ticks : ℕ) (e : Event) (status mid : ℕ) : Type 0 where
     pub others : List Timed
-    pub is : step_at f end running place ≡ step.Is ticks e status mid
+    pub is : step_at f end running place ≡ Ok (step.Is ticks e status mid)
     pub rest : Rest status mid others
 
   pub moves : {running : ℕ} {bytes : List ℕ} {ts : List Timed} → Track running bytes ts → (place : ℕ) → From f place bytes end
-      → (step_at f end running place ≡ step.End end) ⊎ ((ticks : ℕ) × (e : Event) × (status : ℕ) × (mid : ℕ) × Onward running place ticks e status mid)
+      → (step_at f end running place ≡ Ok (step.End end)) ⊎ ((ticks : ℕ) × (e : Event) × (status : ℕ) × (mid : ℕ) × Onward running place ticks e status mid)
   moves {running} (ended {delta = delta} {size = size} body q r) place from =
       inl (end_step f end running place end delta (0xFF ∷ 0x2F ∷ (size ++ body)) q from (omega arith) size body r refl)
   moves {running} (then {ticks = ticks} {status = status} {delta = delta} {event = event} {rest = rest} {e = e} {ts = ts} q o more) place from =
@@ -84,7 +85,7 @@ module _ (f : List ℕ) (end : ℕ) where
   walks at room = record { valid = inl refl; room = room; back = λ ts t. (ts, t); on = λ us t. (us, t) }
 
   module _ (at running place : ℕ) (w : Walks at running place) where
-    abbrev Here : Step
+    abbrev Here : Result Step Fault
     Here = step_at f end running place
 
     wrong : (r : Bool) → r ≡ false → ((ts : List Timed) → Rest running place ts → ⊥) → WholeTrack f at end r
@@ -93,10 +94,10 @@ module _ (f : List ℕ) (end : ℕ) where
       taken = λ us t. let o = w.on us t in absurd (h o.0 o.1);
     }
 
-    pub walks_on : (ticks : ℕ) (e : Event) (status next : ℕ) → Here ≡ step.Is ticks e status next → Walks at status next
+    pub walks_on : (ticks : ℕ) (e : Event) (status next : ℕ) → Here ≡ Ok (step.Is ticks e status next) → Walks at status next
     walks_on ticks e status next is =
         let s = subst (Steps f end running place) is (steps f end running place w.valid w.room) in
-        let up = (step-ends f end running place (step.Is ticks e status next) is).1 in
+        let up = (step-ends f end running place (Ok (step.Is ticks e status next)) is).1 in
         record {
           valid = s.0;
           room = up;
@@ -108,7 +109,7 @@ module _ (f : List ℕ) (end : ℕ) where
         }
       where
         follow : (ts : List Timed) → Rest running place ts
-            → (Here ≡ step.End end) ⊎ ((ticks : ℕ) × (e : Event) × (status : ℕ) × (mid : ℕ) × Onward running place ticks e status mid)
+            → (Here ≡ Ok (step.End end)) ⊎ ((ticks : ℕ) × (e : Event) × (status : ℕ) × (mid : ℕ) × Onward running place ticks e status mid)
             → (ts : List Timed) × Rest status next ts
         follow ts t (inl over) = absurd (let z : ◌≡◌ {A = ℕ} 0 1 = cc in omega arith)
         follow ts t (inr (ticks', e', status', mid, o)) =
@@ -117,7 +118,7 @@ module _ (f : List ℕ) (end : ℕ) where
             let n : mid ≡ next = cc in
             (o.others, subst (λ (k : ℕ). Rest status k o.others) n (subst (λ (k : ℕ). Rest k mid o.others) s o.rest))
 
-    pub walks_over : (next : ℕ) → Here ≡ step.End next → WholeTrack f at end (eqb next end)
+    pub walks_over : (next : ℕ) → Here ≡ Ok (step.End next) → WholeTrack f at end (eqb next end)
     walks_over next is =
         let s = subst (Steps f end running place) is (steps f end running place w.valid w.room) in
         record {
@@ -127,14 +128,14 @@ module _ (f : List ℕ) (end : ℕ) where
           taken = λ us t. let o = w.on us t in follow (moves o.1 place (there running place o.0 o.1));
         }
       where
-        follow : (Here ≡ step.End end) ⊎ ((ticks : ℕ) × (e : Event) × (status : ℕ) × (mid : ℕ) × Onward running place ticks e status mid) → eqb next end ≡ true
+        follow : (Here ≡ Ok (step.End end)) ⊎ ((ticks : ℕ) × (e : Event) × (status : ℕ) × (mid : ℕ) × Onward running place ticks e status mid) → eqb next end ≡ true
         follow (inl over) = let n : next ≡ end = cc in eq-eqb next end n
         follow (inr (ticks, e, status, mid, o)) = let read = o.is in absurd (let z : ◌≡◌ {A = ℕ} 0 1 = cc in omega arith)
 
-    pub walks_broken : (why : Fault) → Here ≡ step.Broken why → WholeTrack f at end false
+    pub walks_broken : (why : Fault) → Here ≡ Err why → WholeTrack f at end false
     walks_broken why is = wrong false refl (λ ts t. follow (moves t place (there running place ts t)))
       where
-        follow : (Here ≡ step.End end) ⊎ ((ticks : ℕ) × (e : Event) × (status : ℕ) × (mid : ℕ) × Onward running place ticks e status mid) → ⊥
+        follow : (Here ≡ Ok (step.End end)) ⊎ ((ticks : ℕ) × (e : Event) × (status : ℕ) × (mid : ℕ) × Onward running place ticks e status mid) → ⊥
         follow (inl over) = let z : ◌≡◌ {A = ℕ} 0 1 = cc in omega arith
         follow (inr (ticks, e, status, mid, o)) = let read = o.is in let z : ◌≡◌ {A = ℕ} 0 1 = cc in omega arith
 

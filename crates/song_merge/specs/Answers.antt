@@ -1,14 +1,13 @@
 -- The answer of `merge`. Definitions only.
-use Rattle.std.specs.Prelude.{◌≡◌, List, ◌⊎◌, ℕ, ◌*◌, ◌^◌, ◌≤◌, ◌<◌, length, take}
+use Rattle.std.specs.Prelude.{Err, ◌≡◌, List, ◌⊎◌, ℕ, ◌*◌, ◌^◌, ◌≤◌, ◌<◌, length, take}
 use Rattle.smf.specs.Faults.{refusal_of}
 use Rattle.smf.specs.Promised.{Timed}
 use Rattle.smf.specs.declared.faults.Fault.{Fault}
 use Rattle.song_grammar.specs.Grammar.{File}
-use Rattle.song_merge.specs.declared.chunks.Opened.TheVariants as opened
 use Rattle.song_merge.specs.declared.Merged.{Merged}
 use Rattle.song_merge.specs.Songs.{ManyTracks}
 use Rattle.song_merge.specs.Merges.{merged_all}
-use Rattle.song_merge.specs.Headings.{opening_of}
+use Rattle.song_merge.specs.Headings.{opened, opening_of}
 
 -- of a file, a spare list of so many bytes, and the list `out` as it is afterwards
 pub record Answers (f : List ℕ) (spare : ℕ) (out : List ℕ) (r : Merged) : Type 0 where
@@ -24,6 +23,6 @@ pub record Answers (f : List ℕ) (spare : ℕ) (out : List ℕ) (r : Merged) : 
       → 2 * length f ≤ length out → r.number ≡ 0
   -- the header is judged as a song's is: 13 for another format or a SMPTE division, where nothing before it is wrong;
   -- all else that can be wrong is 12
-  pub heading : (why : Fault) → opening_of f ≡ opened.Broken why → r.number ≡ refusal_of why.reason
-  pub other : (division count next : ℕ) → opening_of f ≡ opened.Is division count next
+  pub heading : (why : Fault) → opening_of f ≡ Err why → r.number ≡ refusal_of why.reason
+  pub other : (division count next : ℕ) → opening_of f ≡ opened division count next
       → (r.number ≡ 0) ⊎ ((r.number ≡ 8) ⊎ (r.number ≡ 12))

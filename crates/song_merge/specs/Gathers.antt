@@ -1,14 +1,13 @@
 -- What becomes of two tracks, and of all tracks of a file, in the two lists that are lent. Definitions only.
-use Rattle.std.specs.Prelude.{◌≡◌, cond, List, [], ℕ, ◌+◌, ◌-◌, ◌*◌, ◌^◌, ◌≤◌, ◌<◌, ltb, eqb, length}
+use Rattle.std.specs.Prelude.{Option, Some, None, Result, Ok, Err, ◌≡◌, cond, List, [], ℕ, ◌+◌, ◌-◌, ◌*◌, ◌^◌, ◌≤◌, ◌<◌, ltb, eqb, length}
 use Rattle.octets.specs.Octets.{bytes_at}
 use Rattle.smf.specs.Promised.{Timed}
-use Rattle.smf.specs.declared.chunks.Found.{Found}
-use Rattle.smf.specs.declared.chunks.Found.TheVariants as found
-use Rattle.song_merge.specs.declared.merging.Gathered.{Gathered}
-use Rattle.song_merge.specs.declared.merging.Gathered.TheVariants.{To, Short, Broken}
+use Rattle.song_merge.specs.declared.merging.Unmerged.{Unmerged}
+use Rattle.song_merge.specs.declared.merging.Unmerged.TheVariants.{Short, Broken}
 use Rattle.song_merge.specs.Songs.{Tracks}
 use Rattle.song_merge.specs.Merges.{merged_of, merged_all}
 use Rattle.song_merge.specs.Standing.{TrackStands, Held}
+use Rattle.smf.specs.declared.faults.Fault.{Fault}
 
 -- what holds of two tracks, with their sizes: one that stands in a list from 22 up to a place, and one of a file
 abbrev pub OfTwo : List ℕ → ℕ → List ℕ → ℕ → ℕ → (List Timed → List Timed → ℕ → ℕ → Type 0) → Type 0
@@ -38,20 +37,20 @@ pub record Started (out : List ℕ) (r : ℕ) : Type 0 where
   pub room : 29 ≤ length out → 0 < r
 
 -- what is found behind the last track, where the merged one ends at a place; a chunk has less than 2 ^ 32 bytes
-unfoldable pub gathered_to : Found → ℕ → Gathered
-gathered_to found.Nothing end = cond (eqb end 0) Short (cond (ltb 0xFFFFFFFF end) Short (To end))
-gathered_to (found.Track place) end = Broken
-gathered_to (found.Broken why) end = Broken
+unfoldable pub gathered_to : Result (Option ℕ) Fault → ℕ → Result ℕ Unmerged
+gathered_to (Ok None) end = cond (eqb end 0) (Err Short) (cond (ltb 0xFFFFFFFF end) (Err Short) (Ok end))
+gathered_to (Ok (Some place)) end = Err Broken
+gathered_to (Err why) end = Err Broken
 
 -- so many tracks stand in a file from a place on
 abbrev pub TracksFrom : List ℕ → ℕ → ℕ → List (List Timed) → Type 0
 TracksFrom f at count tss = Tracks (bytes_at (length f - at) f at) tss × (length tss ≡ count)
 
--- `Broken` where they don't; `To` the end of the merged track, which begins at 22; `Short` where it has no room
-pub record GathersTracks (f : List ℕ) (count at spare : ℕ) (out : List ℕ) (r : Gathered) : Type 0 where
-  pub told : (r ≡ Broken → ⊥) → (tss : List (List Timed)) × TracksFrom f at count tss
-  pub taken : (tss : List (List Timed)) → TracksFrom f at count tss → r ≡ Broken → ⊥
-  pub merged : (tss : List (List Timed)) → TracksFrom f at count tss → (end : ℕ) → r ≡ To end
+-- the end of the merged track, which begins at 22; `Broken` where they don't, `Short` where it has no room
+pub record GathersTracks (f : List ℕ) (count at spare : ℕ) (out : List ℕ) (r : Result ℕ Unmerged) : Type 0 where
+  pub told : (r ≡ Err Broken → ⊥) → (tss : List (List Timed)) × TracksFrom f at count tss
+  pub taken : (tss : List (List Timed)) → TracksFrom f at count tss → r ≡ Err Broken → ⊥
+  pub merged : (tss : List (List Timed)) → TracksFrom f at count tss → (end : ℕ) → r ≡ Ok end
       → (22 ≤ end) × (end ≤ length out) × (end < 2 ^ 32) × TrackStands out 22 end (merged_all tss)
   pub room : (tss : List (List Timed)) → TracksFrom f at count tss → 14 ≤ at → at < length f → 2 * length f ≤ spare
-      → 2 * length f ≤ length out → length f < 2 ^ 31 → r ≡ Short → ⊥
+      → 2 * length f ≤ length out → length f < 2 ^ 31 → r ≡ Err Short → ⊥

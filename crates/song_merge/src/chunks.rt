@@ -1,7 +1,6 @@
 // The header of a song of format 1, and whether a track chunk is a whole track.
-ghost use Rattle.std.specs.Prelude.{◌≡◌, ◌^◌, ◌≤◌, ◌<◌, length};
+ghost use Rattle.std.specs.Prelude.{Err, ◌≡◌, ◌^◌, ◌≤◌, ◌<◌, length};
 ghost use Rattle.smf.specs.Faults.{fault_at};
-ghost use Rattle.song_merge.specs.declared.chunks.Opened.TheVariants.{Broken};
 ghost use Rattle.song_merge.specs.Headings.{fields_of, opening_of};
 ghost use Rattle.song_merge.specs.Standing.{WholeTrack, ChunkEnd};
 
@@ -12,23 +11,20 @@ use smf::fields::{four_at, two_at};
 
 // Ticks a quarter note, how many tracks, and the place behind the header.
 #[derive(Clone, Copy)]
-pub enum Opened {
-    Is {
-        division: u32,
-        count: u32,
-        next: usize,
-    },
-    Broken(Fault),
+pub struct Opened {
+    pub division: u32,
+    pub count: u32,
+    pub next: usize,
 }
 
-fn broken(reason: Reason, at: usize) -> Opened
-    ensures { result ≡ Broken (fault_at reason at) }
+fn broken(reason: Reason, at: usize) -> Result<Opened, Fault>
+    ensures { result ≡ Err (fault_at reason at) }
 {
-    Opened::Broken(Fault { reason, at })
+    Err(Fault { reason, at })
 }
 
 // The header from its format on.
-fn fields(file: &[u8], size: usize) -> Opened
+fn fields(file: &[u8], size: usize) -> Result<Opened, Fault>
     requires { size < 2 ^ 32 }
     ensures { result ≡ fields_of file.now size }
 {
@@ -59,14 +55,14 @@ fn fields(file: &[u8], size: usize) -> Opened
     if all < 8 + size {
         return broken(Reason::Missing, all);
     }
-    Opened::Is {
+    Ok(Opened {
         division,
         count,
         next: 8 + size,
-    }
+    })
 }
 
-pub fn opening(file: &[u8]) -> Opened
+pub fn opening(file: &[u8]) -> Result<Opened, Fault>
     ensures { result ≡ opening_of file.now }
 {
     let all = file.len();
@@ -95,14 +91,16 @@ fn whole(file: &[u8], at: usize, end: usize) -> bool
     let mut running: u8 = 0;
     loop {
         match step_at(file, end, running, place) {
-            Step::Broken(_) => return false,
-            Step::End(next) => return next == end,
-            Step::Is {
-                delta: _,
-                event: _,
-                status,
-                next,
-            } => {
+            Err(_) => return false,
+            Ok(Step::End(next)) => return next == end,
+            Ok(
+                Step::Is {
+                    delta: _,
+                    event: _,
+                    status,
+                    next,
+                },
+            ) => {
                 running = status;
                 place = next;
             }

@@ -4,7 +4,7 @@ ghost use Rattle.smf.specs.Promised.{Timed};
 ghost use Rattle.song_merge.specs.Standing.{Held, Views, CursorPlaced};
 
 use smf::events::{Read, event_at};
-use smf::fields::{Quantity, quantity_at};
+use smf::fields::quantity_at;
 
 // `wait` is in ticks since the event that was written last. `before` and `after` are the running status before the
 // event and behind it; the event stands from `from` to `next`. Where the track has ended its end is what is waited for.
@@ -46,17 +46,19 @@ pub fn look(list: &[u8], end: usize, running: u8, at: usize) -> Cursor
         → Views list.now end result ts k }
 {
     match quantity_at(list, end, at) {
-        Quantity::Broken(_) => over(0, at),
-        Quantity::Is { value, next: from } => match event_at(list, end, running, from) {
-            Read::Broken(_) => over(0, at),
-            Read::End(_) => over(value, at),
-            Read::Is {
-                event: _,
-                status,
-                next,
-            } => Cursor {
+        Err(_) => over(0, at),
+        Ok((wait, from)) => match event_at(list, end, running, from) {
+            Err(_) => over(0, at),
+            Ok(Read::End(_)) => over(wait, at),
+            Ok(
+                Read::Is {
+                    event: _,
+                    status,
+                    next,
+                },
+            ) => Cursor {
                 ended: false,
-                wait: value,
+                wait,
                 before: running,
                 after: status,
                 from,
@@ -79,7 +81,7 @@ pub fn waited(c: Cursor, ticks: u32) -> Cursor
 {
     Cursor {
         ended: c.ended,
-        wait: if ticks < c.wait { c.wait - ticks } else { 0 },
+        wait: c.wait.saturating_sub(ticks),
         before: c.before,
         after: c.after,
         from: c.from,

@@ -11,12 +11,13 @@ mod writing;
 ghost use Rattle.std.specs.Prelude.{◌≡◌, length};
 ghost use Rattle.song_merge.specs.Answers.{Answers};
 
-use chunks::{Opened, opening};
-use merging::{Gathered, gather};
+use chunks::opening;
+use merging::{Unmerged, gather};
 use smf::faults::refusal;
 use writing::put_heading;
 
 // How many bytes of the list are the song, with 0; with 8 so many are enough for either list; otherwise 0.
+// No Result: the C interface hands out both, as they are (host::files::merge_song).
 #[derive(Clone, Copy)]
 pub struct Merged {
     pub length: usize,
@@ -34,22 +35,15 @@ pub fn merge(file: &[u8], spare: &mut [u8], out: &mut [u8]) -> Merged
     ensures { Answers file.now (length spare.old) out.new result }
 {
     match opening(file) {
-        Opened::Broken(fault) => {
-            let reason = fault.reason;
-            refused(refusal(reason))
-        }
-        Opened::Is {
-            division,
-            count,
-            next,
-        } => match gather(file, count, next, spare, out) {
-            Gathered::Broken => refused(12),
-            Gathered::Short => Merged {
+        Err(fault) => refused(refusal(fault.reason)),
+        Ok(o) => match gather(file, o.count, o.next, spare, out) {
+            Err(Unmerged::Broken) => refused(12),
+            Err(Unmerged::Short) => Merged {
                 length: 2 * file.len(),
                 number: 8,
             },
-            Gathered::To(end) => {
-                put_heading(out, division, (end - 22) as u32);
+            Ok(end) => {
+                put_heading(out, o.division, (end - 22) as u32);
                 Merged {
                     length: end,
                     number: 0,

@@ -1,17 +1,12 @@
 // Two tracks in one, and so all tracks of a song.
-ghost use Rattle.std.specs.Prelude.{◌≡◌, ◌≤◌, ◌<◌, max, length};
+ghost use Rattle.std.specs.Prelude.{◌≡◌, ◌≤◌, ◌<◌, length};
 ghost use Rattle.song_merge.specs.Gathers.{Joined, Grown, Started, gathered_to, GathersTracks};
 
 use crate::chunks::chunk_end;
 use crate::cursors::{goes_first, look, waited};
 use crate::writing::{copy, put_end, put_event};
-use smf::chunks::{Found, track_at};
-
-fn larger(a: u32, b: u32) -> u32
-    ensures { result ≡ max a b }
-{
-    if a < b { b } else { a }
-}
+use smf::chunks::track_at;
+use smf::faults::Fault;
 
 // A track of `a` from 22 to `a_end`, and one of the file from a place to another, in one that stands at the front of
 // `out`: the place behind it, or 0 where it has no room. An event takes five bytes more than it has at most.
@@ -35,7 +30,7 @@ pub fn join(a: &[u8], a_end: usize, file: &[u8], at: usize, end: usize, out: &mu
             if room - w < 7 {
                 return 0;
             }
-            return put_end(out, w, larger(x.wait, y.wait));
+            return put_end(out, w, x.wait.max(y.wait));
         } else {
             if room - w < 5 + (y.next - y.from) {
                 return 0;
@@ -75,10 +70,9 @@ fn with_track(
     22 + size
 }
 
-// The place behind the merged track, which begins at 22.
+// Why there is no merged track: the tracks are not whole, or it has no room.
 #[derive(Clone, Copy)]
-pub enum Gathered {
-    To(usize),
+pub enum Unmerged {
     Short,
     Broken,
 }
@@ -93,44 +87,50 @@ fn start(out: &mut [u8]) -> usize
 }
 
 // Behind the last track no other stands, and the merged one is short enough for a chunk.
-fn closed(found: Found, end: usize) -> Gathered
+fn closed(found: Result<Option<usize>, Fault>, end: usize) -> Result<usize, Unmerged>
     ensures { result ≡ gathered_to found end }
 {
     match found {
-        Found::Nothing => {
-            if end == 0 {
-                return Gathered::Short;
+        Err(_) => Err(Unmerged::Broken),
+        Ok(track) => match track {
+            Some(_) => Err(Unmerged::Broken),
+            None => {
+                if end == 0 {
+                    return Err(Unmerged::Short);
+                }
+                if 0xffff_ffff < end {
+                    return Err(Unmerged::Short);
+                }
+                Ok(end)
             }
-            if 0xffff_ffff < end {
-                return Gathered::Short;
-            }
-            Gathered::To(end)
-        }
-        Found::Track(_) => Gathered::Broken,
-        Found::Broken(_) => Gathered::Broken,
+        },
     }
 }
 
-// So many tracks of the file from a place on.
-pub fn gather(file: &[u8], count: u32, at: usize, spare: &mut [u8], out: &mut [u8]) -> Gathered
+// So many tracks of the file from a place on: the place behind the merged track, which begins at 22.
+pub fn gather(
+    file: &[u8],
+    count: u32,
+    at: usize,
+    spare: &mut [u8],
+    out: &mut [u8],
+) -> Result<usize, Unmerged>
     requires { at ≤ length file.now }
     ensures { GathersTracks file.now count at (length spare.old) out.new result }
 {
     let mut place = at;
     let mut end = start(out);
-    let mut i: u32 = 0;
-    while i < count {
+    for i in 0..count {
         match track_at(file, place) {
-            Found::Nothing => return Gathered::Broken,
-            Found::Broken(_) => return Gathered::Broken,
-            Found::Track(chunk) => {
+            Ok(None) => return Err(Unmerged::Broken),
+            Err(_) => return Err(Unmerged::Broken),
+            Ok(Some(chunk)) => {
                 let full = chunk_end(file, chunk);
                 if full == 0 {
-                    return Gathered::Broken;
+                    return Err(Unmerged::Broken);
                 }
                 end = with_track(file, chunk + 8, full, spare, out, end);
                 place = full;
-                i += 1;
             }
         }
     }

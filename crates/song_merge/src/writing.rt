@@ -39,10 +39,8 @@ pub fn copy(list: &[u8], from: usize, size: usize, out: &mut [u8], at: usize)
     requires { (from + size < 2 ^ 64) × (at + size ≤ length out.old) }
     ensures { out.new ≡ sets out.old at (bytes_at size list.now from) }
 {
-    let mut i: usize = 0;
-    while i < size {
+    for i in 0..size {
         out[at + i] = byte_at(list, from + i);
-        i += 1;
     }
 }
 

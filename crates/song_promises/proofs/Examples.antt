@@ -1,4 +1,5 @@
 -- A song, computed, that meets every premise of `SongHeard`: read from a file, and played by a host that cuts its run at the next entry. Assumes nothing.
+use Rattle.std.specs.Prelude.{Ok}
 use mathlib.Core.Path.{◌≡◌, refl}
 use mathlib.Core.Bool.{true}
 use mathlib.Core.List.{List, [], ◌∷◌, ◌++◌, map}
@@ -9,7 +10,6 @@ use Rattle.binary32.specs.Leaves.{as_float, zero32}
 use Rattle.common_types.specs.Notes.{from_u64_of}
 use Rattle.octets.proofs.Hex.{from_hex}
 use Rattle.smf.specs.Cues.{Entry, song_of, counted_judged, list_of, cue_of}
-use Rattle.smf.specs.declared.Counted.TheVariants.{Done}
 use Rattle.smf.specs.declared.Cue.{Cue}
 use Rattle.smf.proofs.Examples.{computing as reading}
 use Rattle.songs.specs.Plays.{cue_call, one_more_refused, cues_of, cues_played, play_of, due_of}
@@ -31,7 +31,7 @@ song = from_hex "4D546864 00000006 0000 0001 0001 4D54726B 00000010 00 903C7F 04
 abbrev lent : List ℕ
 lent = 9 ∷ 9 ∷ 9 ∷ 9 ∷ 9 ∷ 9 ∷ 9 ∷ []
 
-read : counted_judged song 1 7 ≡ Done 3
+read : counted_judged song 1 7 ≡ Ok 3
 unfolding reading
 read = refl
 

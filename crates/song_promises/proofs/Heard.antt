@@ -1,4 +1,5 @@
 -- From a file to its sound: `specs/Heard.antt`. Assumes nothing.
+use Rattle.std.specs.Prelude.{Ok}
 use mathlib.Core.Path.{◌≡◌, refl, sym, ap, ◌∙◌, subst}
 use mathlib.Core.Bool.{Bool, true, false, cond, not}
 use mathlib.Core.List.{List, [], ◌∷◌, ◌++◌, map}
@@ -10,6 +11,10 @@ use native.Mathlib.Nat.{suc-mul, div-mul-le_self}
 use lib.Dec.{leb, ltb, eqb}
 use lib.ListN.{length, take, drop, get_or, length-drop}
 use lib.Ieee.{Float}
+use Rattle.std.specs.Prelude.{Ok}
+use Rattle.refusals.specs.declared.Refusal.TheVariants.{BeyondLimits, ClockEnd, Broken, BadRun}
+use Rattle.refusals.specs.Refusals.{code_of, row}
+use Rattle.refusals.proofs.Codes.{done_at}
 use Rattle.binary32.specs.Leaves.{as_float, zero32}
 use Rattle.common_types.specs.Notes.{from_u64_of}
 use Rattle.voice.specs.Soundness.{FittingParams}
@@ -22,16 +27,15 @@ use Rattle.sampler.specs.Soundness.{FittingSampler}
 use Rattle.common_types.specs.declared.InitParams.{InitParams}
 use Rattle.common_types.specs.declared.Params.{Params}
 use Rattle.common_types.specs.Settings.{beyond_limits}
-use Rattle.sampler.specs.Refusals.{row, good_with, frames_left, set_up_number, run_number, done_of}
+use Rattle.sampler.specs.Refusals.{good_with, frames_left, set_up_number, run_judged, run_number, done_of}
 use lib.Seq.{take_at, length-take-le}
 use Rattle.smf.specs.Cues.{Entry, song_of, numbers_of, counted_judged, list_of, cues_number, cue_of}
-use Rattle.smf.specs.declared.Counted.TheVariants.{Done}
 use Rattle.smf.specs.declared.Cue.{Cue}
 use Rattle.smf.proofs.Promised.{promised}
 use Rattle.smf.proofs.Turns.{numbers_length}
 use Rattle.songs.specs.Plays.{cues_of, due_of}
 use Rattle.songs.proofs.Hands.{by_hand}
-use Rattle.promises.specs.Runs.{World, set_up, frame, code, after, run, chan, own_part, done_to, event, Made, one, frames, frames_done, frame_calls, spread, made, makes, Accepted}
+use Rattle.promises.specs.Runs.{World, set_up, frame, code, after, run, chan, own_part, done_to, event, Made, one, frames, frames_done, frame_calls, spread, made, makes, Accepted, call_judged}
 use Rattle.promises.specs.Demands.{FirstIn, Demand3}
 use Rattle.promises.proofs.Makes.{third, count_makes}
 use Rattle.promises.proofs.Turns.{in_turn}
@@ -74,7 +78,7 @@ unfolding numbers_of cues_of
 cues_append [] ys = refl
 cues_append (x ∷ xs) ys = ap (λ (l : List Cue). cue_of x.frame x.key ∷ l) (cues_append xs ys)
 
-module _ (f : List ℕ) (rate : ℕ) (lent : List ℕ) (n : ℕ) (read : counted_judged f rate (length lent) ≡ Done n) where
+module _ (f : List ℕ) (rate : ℕ) (lent : List ℕ) (n : ℕ) (read : counted_judged f rate (length lent) ≡ Ok n) where
   list_is : take (2 * n) (list_of f rate lent) ≡ numbers_of (song_of rate f).entries
   unfolding cues_number
   list_is =
@@ -167,7 +171,7 @@ module _ (count : ℕ) (q : InitParams) (m : List ℕ) (good : set_up_number cou
       (subst (λ (v : World). Demand3 v j) (sym from) (third count q m good hs j k)).counts (frame xs p) p (get_or xs j zero32) (own_part w j) heard
     where
       heard : event w (frame xs p) j ≡ sounds p (get_or xs j zero32) (own_part w j)
-      heard = rw (accepted, lt-ltb j (length xs) wide)
+      heard = rw (done_at (call_judged w (frame xs p)) accepted, lt-ltb j (length xs) wide)
 
   after_frame : (hs : List Made) (w : World) → w ≡ makes (set_up count q m) hs → (xs : List Float) (p : Params) → after w (frame xs p) ≡ makes (set_up count q m) (hs ++ (one (frame xs p) ∷ []))
   unfolding makes made
@@ -184,7 +188,7 @@ module _ (count : ℕ) (q : InitParams) (m : List ℕ) (good : set_up_number cou
       omega arith
 
   -- a run that is accepted is done to its end
-  last_row : (a b c d : Bool) → ◌≡◌ {A = ℕ} (row a 9 (row b 10 (row c 4 (row d 6 0)))) 0 → d ≡ false
+  last_row : (a b c d : Bool) → code_of (row a Broken (row b BadRun (row c BeyondLimits (row d ClockEnd (Ok (tt {0})))))) ≡ 0 → d ≡ false
   last_row true b c d e = absurd (omega arith)
   last_row false true c d e = absurd (omega arith)
   last_row false false true d e = absurd (omega arith)
@@ -192,7 +196,7 @@ module _ (count : ℕ) (q : InitParams) (m : List ℕ) (good : set_up_number cou
   last_row false false false false e = refl
 
   room_enough : (w : World) (xs : List Float) (p : Params) → run_number w.sampler (length xs) p (length w.memory) ≡ 0 → length xs / w.sampler.count ≤ frames_left w.sampler
-  unfolding run_number
+  unfolding run_judged
   room_enough w xs p e = ltb-false (frames_left w.sampler) (length xs / w.sampler.count)
       (last_row (not (good_with w.sampler (length w.memory))) (not (eqb (length xs % w.sampler.count) 0)) (beyond_limits p) (ltb (frames_left w.sampler) (length xs / w.sampler.count)) e)
 
@@ -218,7 +222,7 @@ module _ (count : ℕ) (q : InitParams) (m : List ℕ) (good : set_up_number cou
 
 -- ---- the song
 module _ (count : ℕ) (q : InitParams) (m : List ℕ) (good : set_up_number count (length m) ≡ 0) (hs : List Made) (j : ℕ) (k : j < count) (w : World) (from : w ≡ makes (set_up count q m) hs) where
-  on_time : (f : List ℕ) (rate : ℕ) (lent : List ℕ) (n : ℕ) → counted_judged f rate (length lent) ≡ Done n
+  on_time : (f : List ℕ) (rate : ℕ) (lent : List ℕ) (n : ℕ) → counted_judged f rate (length lent) ≡ Ok n
       → (list : List ℕ) → list ≡ take (2 * n) (list_of f rate lent)
       → (before : List Entry) (e : Entry) (behind : List Entry) → (song_of rate f).entries ≡ before ++ (e ∷ behind)
       → (c : Cue) → c ≡ cue_of e.frame e.key → c.starts ≡ true

@@ -5,10 +5,11 @@ use mathlib.Core.List.{List, [], ◌∷◌, ◌++◌, map, map-append}
 use Prim.Native.Nat.{ℕ, zero, suc, ◌+◌, ◌*◌, ◌≤◌, ◌<◌}
 use native.Mathlib.Omega.{arith}
 use borrow.Author.Tests.{leb-true, leb-false}
-use lib.Dec.{leb, eqb}
+use lib.Dec.{leb}
 use lib.ListN.{length, drop}
 use lib.Seq.{drop-drop}
 use lib.Ieee.{Float}
+use Rattle.std.specs.Prelude.{is_ok}
 use Rattle.binary32.specs.Leaves.{as_float}
 use Rattle.common_types.specs.Notes.{from_u64_of}
 use Rattle.common_types.specs.declared.InitParams.{InitParams}
@@ -19,7 +20,7 @@ use Rattle.channel.specs.declared.Change.{Change}
 use Rattle.channel.specs.Channels.{live}
 use Rattle.voice.specs.Voices.{fresh_of}
 use Rattle.walks.specs.Each.{Each}
-use Rattle.walks.specs.Walks.{any, fold}
+use Rattle.std.specs.List.{list_any, fold}
 use Rattle.sampler.specs.Refusals.{set_up_number}
 use Rattle.sampler.specs.Samplers.{start_playing_of, stop_playing_of}
 use Rattle.sampler.specs.declared.Sampler.{Sampler}
@@ -32,17 +33,12 @@ use Rattle.songs.proofs.Hands.{by_hand}
 use Rattle.fates.specs.Engine.{born_of}
 use Rattle.fates.specs.Events.{idle, changes, sounds, is_reset, is_sample, empty_at}
 use Rattle.fates.specs.Places.{stopped_in}
-use Rattle.promises.specs.Runs.{World, set_up, Call, stop, frame, code, with_sampler, after, run, chan, done_to, event, events, is_reset_call, Made, one, made as made_by, makes}
+use Rattle.promises.specs.Runs.{World, set_up, Call, stop, frame, code, with_sampler, after, run, chan, done_to, event, events, is_reset_call, Made, one, made as made_by, makes, call_judged}
 use Rattle.promises.specs.Demands.{is_empty, FirstIn, Demand3}
-use Rattle.promises.proofs.Makes.{third}
+use Rattle.promises.proofs.Makes.{third, run_more}
 use Rattle.song_promises.specs.Songs.{start_call, hand_of, hands, left_in, due_in, Rising, played, hosted, woven, Songs}
 
 -- ---- by hand
-
-run_more : (w : World) (bs cs : List Call) → run w (bs ++ cs) ≡ run (run w bs) cs
-unfolding run
-run_more w [] cs = refl
-run_more w (b ∷ bs) cs = run_more (after w b) bs cs
 
 -- a call of the list is the call of its world
 made : (p : Params) (w : World) (c : Cue) → with_sampler (cue_call w.sampler c p).sampler w ≡ after w (hand_of p c)
@@ -60,7 +56,7 @@ made p w c = go c.starts
 
 each_made : (p : Params) (w : World) (cs : List Cue)
     → with_sampler (fold (λ (e : Sampler) (c : Cue). (cue_call e c p).sampler) w.sampler cs) w ≡ run w (hands p cs)
-unfolding fold run
+unfolding run
 each_made p w [] = refl
 each_made p w (c ∷ cs) =
     each_made p (with_sampler (cue_call w.sampler c p).sampler w) cs ∙ ap (λ (v : World). run v (hands p cs)) (made p w c)
@@ -132,8 +128,8 @@ rises from (e ∷ es) h = (h.0, rises e.frame es h.1)
 
 -- ---- starts and stops are neither resets nor samples
 
-no_reset : (p : Params) (cs : List Cue) → any is_reset_call (hands p cs) ≡ false
-unfolding any hand_of is_reset_call is_reset
+no_reset : (p : Params) (cs : List Cue) → list_any is_reset_call (hands p cs) ≡ false
+unfolding hand_of is_reset_call is_reset
 no_reset p [] = refl
 no_reset p (c ∷ cs) = rw (keeps c.starts) (no_reset p cs)
   where
@@ -146,14 +142,14 @@ unfolding is_sample
 silent true d = refl
 silent false d = refl
 
-no_sample : (p : Params) (w : World) (cs : List Cue) (j : ℕ) → any is_sample (events w (hands p cs) j) ≡ false
-unfolding any events hand_of event done_to
+no_sample : (p : Params) (w : World) (cs : List Cue) (j : ℕ) → list_any is_sample (events w (hands p cs) j) ≡ false
+unfolding events hand_of event done_to
 no_sample p w [] j = refl
 no_sample p w (c ∷ cs) j = rw (keeps c.starts) (no_sample p (after w (hand_of p c)) cs j)
   where
     keeps : (b : Bool) → is_sample (event w (cond b (start_call p c) (stop (from_u64_of c.note) p)) j) ≡ false
-    keeps true = silent (eqb (code w (start_call p c)) 0) _
-    keeps false = silent (eqb (code w (stop (from_u64_of c.note) p)) 0) _
+    keeps true = silent (is_ok (call_judged w (start_call p c))) _
+    keeps false = silent (is_ok (call_judged w (stop (from_u64_of c.note) p))) _
 
 -- ---- on time
 

@@ -1,7 +1,7 @@
 -- From a file to its sound, as one statement: a host reads a song, and from count 0 on plays it before each of its
 -- turns; then every start is heard in the frame of its own count. `proofs/Heard: heard` proves the record `SongHeard`.
 -- Definitions only. Assumes nothing.
-use Rattle.std.specs.Prelude.{◌≡◌, true, false, List, [], ◌∷◌, ◌++◌, ℕ, ◌+◌, ◌*◌, ◌/◌, ◌<◌, length, take, Float}
+use Rattle.std.specs.Prelude.{Ok, ◌≡◌, true, false, List, [], ◌∷◌, ◌++◌, ℕ, ◌+◌, ◌*◌, ◌/◌, ◌<◌, length, take, Float}
 use Rattle.binary32.specs.Leaves.{as_float}
 use Rattle.common_types.specs.Notes.{from_u64_of}
 use Rattle.common_types.specs.declared.InitParams.{InitParams}
@@ -12,7 +12,6 @@ use Rattle.channel.specs.Channels.{live}
 use Rattle.sampler.specs.Refusals.{set_up_number, run_number}
 use Rattle.sampler.specs.Soundness.{FittingSampler}
 use Rattle.smf.specs.Cues.{Entry, song_of, counted_judged, list_of, cue_of}
-use Rattle.smf.specs.declared.Counted.TheVariants.{Done}
 use Rattle.smf.specs.declared.Cue.{Cue}
 use Rattle.songs.specs.Plays.{play_of}
 use Rattle.channel.specs.Heads.{moment_of}
@@ -101,7 +100,7 @@ pub record SongHeard : Type 0 where
   -- of a file that is read, a host whose turns keep step, and an entry e of the song that is a start
   pub on_time : (count : ℕ) (q : InitParams) (m : List ℕ) → set_up_number count (length m) ≡ 0
       → (hs : List Made) (j : ℕ) → j < count → (w : World) → w ≡ makes (set_up count q m) hs
-      → (f : List ℕ) (rate : ℕ) (lent : List ℕ) (n : ℕ) → counted_judged f rate (length lent) ≡ Done n
+      → (f : List ℕ) (rate : ℕ) (lent : List ℕ) (n : ℕ) → counted_judged f rate (length lent) ≡ Ok n
       → (list : List ℕ) → list ≡ take (2 * n) (list_of f rate lent)
       → (before : List Entry) (e : Entry) (behind : List Entry) → (song_of rate f).entries ≡ before ++ (e ∷ behind)
       → (c : Cue) → c ≡ cue_of e.frame e.key → c.starts ≡ true

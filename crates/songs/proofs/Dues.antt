@@ -11,6 +11,8 @@ use Rattle.sampler.specs.declared.Answer.{Answer}
 use Rattle.sampler.specs.declared.Sampler.{Sampler}
 use Rattle.smf.specs.Cues.{cue_of}
 use Rattle.smf.specs.declared.Cue.{Cue}
+use Rattle.std.specs.Prelude.{Result, is_ok}
+use Rattle.refusals.specs.declared.Refusal.{Refusal}
 use Rattle.songs.specs.Plays.{cue_call, change_by, one_more_refused, cues_of, cues_played, play_of, due_of}
 use Rattle.songs.specs.declared.Playing.{Playing}
 
@@ -39,7 +41,7 @@ cues_over list place h = few (drop (2 * place) list) (omega (arith, length-drop 
 module _ (s : Sampler) (frame key : ℕ) (cs : List Cue) (next at : ℕ) (p : Params) (refused : ℕ) where
   pub due : frame ≤ at
       → cues_played s (cue_of frame key ∷ cs) next at p refused
-      ≡ cues_played (cue_call s (cue_of frame key) p).sampler cs (next + 1) at p (one_more_refused refused (cue_call s (cue_of frame key) p).number)
+      ≡ cues_played (cue_call s (cue_of frame key) p).sampler cs (next + 1) at p (one_more_refused refused (cue_call s (cue_of frame key) p).done)
   unfolding cues_played cue_of
   due h = simp (le-leb _ _ h)
 
@@ -77,7 +79,7 @@ none_due s [] next at p refused none = refl
 none_due s (c ∷ cs) next at p refused none = go (leb c.frame at) none
   where
     on : Playing
-    on = cues_played (cue_call s c p).sampler cs (next + 1) at p (one_more_refused refused (cue_call s c p).number)
+    on = cues_played (cue_call s c p).sampler cs (next + 1) at p (one_more_refused refused (cue_call s c p).done)
 
     stays : Playing
     stays = record { sampler = s; next = next; refused = refused }
@@ -95,9 +97,9 @@ pub record Going (s₀ : Sampler) (list : List ℕ) (next at : ℕ) (p : Params)
 abbrev pub cue_at : List ℕ → ℕ → Cue
 cue_at list place = cue_of (get_or list (2 * place) 0) (get_or list (2 * place + 1) 0)
 
-pub one_more_most : (refused number place : ℕ) → refused ≤ place → one_more_refused refused number ≤ place + 1
+pub one_more_most : (refused : ℕ) (done : Result (Unit {0}) Refusal) (place : ℕ) → refused ≤ place → one_more_refused refused done ≤ place + 1
 unfolding one_more_refused
-one_more_most refused number place h = go (eqb number 0)
+one_more_most refused done place h = go (is_ok done)
   where
     go : (b : Bool) → cond b refused (refused + 1) ≤ place + 1
     go true = omega arith
@@ -130,17 +132,17 @@ module _ {s₀ : Sampler} {list : List ℕ} {next at : ℕ} {p : Params} {end : 
     here = due_here list at place (omega (arith, g.ends))
 
     -- no list is so long that the count of refused calls wraps
-    pub no_wrap : end < 2 ^ 64 → (number : ℕ) → one_more_refused refused number % 2 ^ 64 ≡ one_more_refused refused number
-    no_wrap fits number = let most = one_more_most refused number place g.few in omega arith
+    pub no_wrap : end < 2 ^ 64 → (done : Result (Unit {0}) Refusal) → one_more_refused refused done % 2 ^ 64 ≡ one_more_refused refused done
+    no_wrap fits done = let most = one_more_most refused done place g.few in omega arith
 
-    pub goes_on : (a : Answer) → a ≡ change_of s (change_by (cue_at list place) p) → Going s₀ list next at p end a.sampler (place + 1) (one_more_refused refused a.number)
+    pub goes_on : (a : Answer) → a ≡ change_of s (change_by (cue_at list place) p) → Going s₀ list next at p end a.sampler (place + 1) (one_more_refused refused a.done)
     goes_on a e =
         let cue = cue_at list place in
         let rest = cues_of (drop (2 * (place + 1)) list) in
         let step = ap (λ (cs : List Cue). cues_played s cs place at p refused) (cues_next list place here.0) ∙ due s _ _ _ place at p refused here.1 in
         let less = dues_next list at place here.0 here.1 in
         record {
-          same = ap (λ (b : Answer). cues_played b.sampler rest (place + 1) at p (one_more_refused refused b.number)) (e ∙ call_is s cue p) ∙ sym step ∙ g.same;
+          same = ap (λ (b : Answer). cues_played b.sampler rest (place + 1) at p (one_more_refused refused b.done)) (e ∙ call_is s cue p) ∙ sym step ∙ g.same;
           ends = omega (arith, g.ends, less);
-          few = one_more_most refused a.number place g.few;
+          few = one_more_most refused a.done place g.few;
         }

@@ -1,8 +1,9 @@
 -- A song's list, played: the calls that are due, one after the other, by the definitions that the engine's calls equal.
 -- Definitions only.
-use Rattle.std.specs.Prelude.{◌≡◌, ℕ, ◌+◌, ◌*◌, cond, List, [], ◌∷◌, ◌++◌, length, drop, ◌==◌, nat_le}
+use Rattle.std.specs.Prelude.{◌≡◌, ℕ, ◌+◌, ◌*◌, cond, List, [], ◌∷◌, ◌++◌, length, drop, nat_le, Result, is_ok}
 use Rattle.binary32.specs.Leaves.{as_float}
-use Rattle.walks.specs.Walks.{fold}
+use Rattle.std.specs.List.{fold}
+use Rattle.refusals.specs.declared.Refusal.{Refusal}
 use Rattle.channel.specs.declared.Change.{Change}
 use Rattle.channel.specs.declared.Change.TheVariants as change
 use Rattle.common_types.specs.Notes.{from_u64_of}
@@ -27,8 +28,8 @@ change_by c p =
     (change.Stop p (from_u64_of c.note))
 
 -- a refused call is counted
-unfoldable pub one_more_refused : ℕ → ℕ → ℕ
-one_more_refused refused number = cond (number == 0) refused (refused + 1)
+unfoldable pub one_more_refused : ℕ → Result (Unit {0}) Refusal → ℕ
+one_more_refused refused done = cond (is_ok done) refused (refused + 1)
 
 -- the starts and stops of a list, two numbers each
 unfoldable pub cues_of : List ℕ → List Cue
@@ -41,7 +42,7 @@ unfoldable pub cues_played : Sampler → List Cue → ℕ → ℕ → Params →
 cues_played s [] next at p refused = record { sampler = s; next = next; refused = refused }
 cues_played s (c ∷ cs) next at p refused =
     let a = cue_call s c p in
-    cond (nat_le c.frame at) (cues_played a.sampler cs (next + 1) at p (one_more_refused refused a.number))
+    cond (nat_le c.frame at) (cues_played a.sampler cs (next + 1) at p (one_more_refused refused a.done))
     (record { sampler = s; next = next; refused = refused })
 
 -- from the entry `next` on
@@ -55,12 +56,12 @@ unfoldable pub due_of : ℕ → List Cue → List Cue
 due_of at [] = []
 due_of at (c ∷ cs) = cond (nat_le c.frame at) (c ∷ due_of at cs) []
 
--- those of them that answer a number other than 0, each made on the engine as the one before it leaves it
+-- those of them that are refused, each made on the engine as the one before it leaves it
 unfoldable pub refused_of : Sampler → List Cue → Params → List Cue
 refused_of s [] p = []
 refused_of s (c ∷ cs) p =
     let a = cue_call s c p in
-    cond (a.number == 0) [] (c ∷ []) ++ refused_of a.sampler cs p
+    cond (is_ok a.done) [] (c ∷ []) ++ refused_of a.sampler cs p
 
 pub record ByHand (s : Sampler) (list : List ℕ) (next at : ℕ) (p : Params) : Type 0 where
   -- the engine is as after each call in turn
@@ -68,5 +69,5 @@ pub record ByHand (s : Sampler) (list : List ℕ) (next at : ℕ) (p : Params) :
       ≡ fold (λ (e : Sampler) (c : Cue). (cue_call e c p).sampler) s (due_of at (cues_of (drop (2 * next) list)))
   -- and the next entry is the one behind them
   pub places : (play_of s list next at p).next ≡ next + length (due_of at (cues_of (drop (2 * next) list)))
-  -- and as many are told as refused as answer so
+  -- and as many are told as refused as are
   pub refusals : (play_of s list next at p).refused ≡ length (refused_of s (due_of at (cues_of (drop (2 * next) list))) p)

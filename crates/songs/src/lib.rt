@@ -7,6 +7,7 @@ ghost use Rattle.songs.specs.Plays.{change_by, one_more_refused, cues_of, due_of
 
 use channel::Change;
 use common_types::{Note, Params};
+use refusals::Refusal;
 use sampler::Sampler;
 use smf::Cue;
 
@@ -22,7 +23,7 @@ pub struct Playing {
 pub fn change_of(cue: Cue, params: Params) -> Change
     ensures { result ≡ change_by cue params }
 {
-    let note = Note::from_u64(cue.note);
+    let note = Note::from(cue.note);
     if cue.starts {
         Change::Start {
             params: params.copied(),
@@ -39,10 +40,10 @@ pub fn change_of(cue: Cue, params: Params) -> Change
 }
 
 // The refused calls, with one more if it is: no list has so many that the count wraps.
-pub fn one_more(refused: usize, number: u8) -> usize
-    ensures { result ≡ one_more_refused refused number % 2 ^ 64 }
+pub fn one_more(refused: usize, done: Result<(), Refusal>) -> usize
+    ensures { result ≡ one_more_refused refused done % 2 ^ 64 }
 {
-    if number == 0 {
+    if done.is_ok() {
         refused
     } else {
         std::num::wrapping_add_usize(refused, 1)
@@ -54,14 +55,12 @@ pub fn due(list: &[u64], next: usize, at: u64) -> usize
     ensures { result ≡ next + length (due_of at (cues_of (drop (2 * next) list.now))) }
 {
     let entries = list.len() / 2;
-    let mut place = next;
-    while place < entries {
+    for place in next..entries {
         if at < list[2 * place] {
             return place;
         }
-        place += 1;
     }
-    place
+    next.max(entries)
 }
 
 // Makes the calls that are due at the frame count `at`, from the entry `next` of the list on. To play a song, call it
@@ -71,14 +70,12 @@ pub fn play(s: Sampler, list: &[u64], next: usize, at: u64, params: Params) -> P
 {
     let end = due(list, next, at);
     let mut sampler = s;
-    let mut place = next;
     let mut refused: usize = 0;
-    while place < end {
+    for place in next..end {
         let cue = Cue::new(list[2 * place], list[2 * place + 1]);
         let answer = sampler.changed(change_of(cue, params));
         sampler = answer.sampler;
-        refused = one_more(refused, answer.number);
-        place += 1;
+        refused = one_more(refused, answer.done);
     }
     Playing {
         sampler,

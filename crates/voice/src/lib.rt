@@ -85,6 +85,7 @@ pub struct Tick {
 }
 
 // A turn taken the quick way, where the voice glides; elsewhere `voice` is not to be looked at.
+// No Option: the voice is made in one place, before it is known whether it glides (speed: `quick_at`).
 #[derive(Clone, Copy)]
 pub struct Quick {
     pub voice: Voice,
@@ -92,6 +93,7 @@ pub struct Quick {
 }
 
 impl Span {
+    #[tactic(auto, unfolding(crate::specs::Voices::span_by))]
     fn new(m: Measure, data_len: usize) -> Self
         ensures { result ≡ span_by m data_len }
     {
@@ -109,24 +111,21 @@ impl Tick {
     pub fn new(params: Params, at: Moment) -> Self
         ensures { result ≡ tick_of params at }
     {
-        let m = params.measure();
-        Self::measured(params, m, at)
+        Self::measured(params, params.measure(), at)
     }
 
     // By a measure of the loop length, which is the parameters' for every phrase: worked out once, it serves them all.
     pub fn measured(params: Params, m: Measure, at: Moment) -> Self
         ensures { result ≡ tick_with (span_by m at.data_len) params at }
     {
-        let loop_mode = params.loop_mode;
-        let note_off_behavior = params.note_off_behavior;
         Self {
             now: at.now,
             decay_samples: params.decay_samples,
             span: Span::new(m, at.data_len),
             speed: params.speed(),
-            mode: clip_mode(loop_mode),
-            once: plays_once(loop_mode),
-            note_off_behavior,
+            mode: clip_mode(params.loop_mode),
+            once: plays_once(params.loop_mode),
+            note_off_behavior: params.note_off_behavior,
             interpolates: at.interpolates,
             phrase: at.phrase,
         }
@@ -138,8 +137,7 @@ fn clip_mode(mode: LoopMode) -> Mode
     ensures { result ≡ clip_mode_of mode }
 {
     match mode {
-        LoopMode::PlayOnce => Mode::Loop,
-        LoopMode::Loop => Mode::Loop,
+        LoopMode::PlayOnce | LoopMode::Loop => Mode::Loop,
         LoopMode::PingPong => Mode::PingPong,
     }
 }
@@ -147,11 +145,7 @@ fn clip_mode(mode: LoopMode) -> Mode
 fn plays_once(mode: LoopMode) -> bool
     ensures { result ≡ plays_once_of mode }
 {
-    match mode {
-        LoopMode::PlayOnce => true,
-        LoopMode::Loop => false,
-        LoopMode::PingPong => false,
-    }
+    matches!(mode, LoopMode::PlayOnce)
 }
 
 // The value recorded at a place of the phrase.
@@ -166,6 +160,7 @@ pub fn recorded(data: &[u32], index: usize) -> f32
 }
 
 // a at fraction 0, and from there toward b (request 7/12).
+#[tactic(auto, unfolding(crate::specs::Voices::between_of))]
 fn between(a: f32, b: f32, fraction: f32) -> f32
     ensures { result ≡ between_of a b fraction }
 {
@@ -202,9 +197,7 @@ fn quick_beside(clip2: Clip, index: usize, t: Tick) -> usize
     if !t.interpolates {
         return index;
     }
-    let span = t.span;
-    let mode = t.mode;
-    clip2.quick_next(t.now, span.length, span.data_length, mode)
+    clip2.quick_next(t.now, t.span.length, t.span.data_length, t.mode)
 }
 
 impl Voice {
@@ -213,14 +206,13 @@ impl Voice {
         ensures { result ≡ fresh_of params position note velocity at }
     {
         let data_length = binary32::usize_to_f32(at.data_len);
-        let loop_mode = params.loop_mode;
         let clip2 = Clip::made(
             at.now,
             position * data_length,
             params.speed(),
             params.loop_length(at.data_len),
             data_length,
-            clip_mode(loop_mode),
+            clip_mode(params.loop_mode),
         );
         Self {
             finished_at: 0,
@@ -270,6 +262,7 @@ impl Voice {
         }
     }
 
+    #[tactic(auto, unfolding(crate::specs::Voices::at_speed_of))]
     pub fn at_speed(mut self, speed: f32) -> Self
         ensures { result ≡ at_speed_of speed self }
     {
@@ -277,40 +270,37 @@ impl Voice {
         self
     }
 
+    #[tactic(auto, unfolding(crate::specs::Voices::should_remove_of))]
     pub fn should_remove(self, t: Tick) -> bool
         ensures { result ≡ should_remove_of t self }
     {
-        if !self.finished {
-            return false;
-        }
-        let volume = self.volume;
-        let behavior = t.note_off_behavior;
-        over(behavior, volume.is_static_and_mute(), self.late(t))
+        self.finished
+            && over(
+                t.note_off_behavior,
+                self.volume.is_static_and_mute(),
+                self.late(t),
+            )
     }
 
     // Its decay is over by the clock, or it stands at a crossing.
+    #[tactic(auto, unfolding(crate::specs::Voices::late_of))]
     fn late(self, t: Tick) -> bool
         ensures { result ≡ late_of t self }
     {
-        if t.decay_samples <= since(self.finished_at, t.now) {
-            return true;
-        }
-        self.is_at_zero_crossing
+        t.decay_samples <= since(self.finished_at, t.now) || self.is_at_zero_crossing
     }
 
     // The clip, brought up to this sample's length, speed, data length and mode, and where it is then.
+    #[tactic(auto, unfolding(crate::specs::Voices::moved_of))]
     fn moved(self, t: Tick) -> Sounding
         ensures { result ≡ sounding_of (moved_of t self) t.now t.interpolates }
     {
-        let clip2 = self.clip2;
-        let mode = t.mode;
-        let span = t.span;
-        clip2.sounding(
+        self.clip2.sounding(
             t.now,
-            span.length,
+            t.span.length,
             self.speed * t.speed,
-            span.data_length,
-            mode,
+            t.span.data_length,
+            t.mode,
             t.interpolates,
         )
     }
@@ -319,62 +309,37 @@ impl Voice {
         ensures { result ≡ sounded_of t «data».now self }
     {
         let moved = self.moved(t);
-        let clip2 = moved.clip;
         let position = moved.position;
-        let volume = self.volume;
-        let note = self.note;
-        let value = valued(position, moved.next, t, data) * volume.level(t.now);
+        let value = valued(position, moved.next, t, data) * self.volume.level(t.now);
         Self {
-            finished_at: self.finished_at,
             last_sample_index: position.index,
-            clip2,
-            volume,
-            loop_start_percent: self.loop_start_percent,
+            clip2: moved.clip,
             played: self.played + self.speed * t.speed,
             last_sample_value: value,
-            speed: self.speed,
-            note,
-            finished: self.finished,
             is_at_zero_crossing: binary32::crossing(value, self.last_sample_value),
-            phrase: self.phrase,
+            ..self
         }
     }
 
     // From here its level goes to 0 over the decay.
+    #[tactic(auto, unfolding(crate::specs::Voices::finish_of))]
     pub fn finish(self, now: usize, decay_samples: usize) -> Self
         ensures { result ≡ finish_of now decay_samples self }
     {
-        let clip2 = self.clip2;
-        let volume = self.volume;
-        let note = self.note;
         Self {
             finished_at: now,
-            last_sample_index: self.last_sample_index,
-            clip2,
-            volume: volume.toward(now, decay_samples, 0.0),
-            loop_start_percent: self.loop_start_percent,
-            played: self.played,
-            last_sample_value: self.last_sample_value,
-            speed: self.speed,
-            note,
+            volume: self.volume.toward(now, decay_samples, 0.0),
             finished: true,
-            is_at_zero_crossing: self.is_at_zero_crossing,
-            phrase: self.phrase,
+            ..self
         }
     }
 
     // Whether play-once has played a whole loop length.
+    #[tactic(auto, unfolding(crate::specs::Voices::played_out_of))]
     fn played_out(self, t: Tick) -> bool
         ensures { result ≡ played_out_of t self }
     {
-        if !t.once {
-            return false;
-        }
-        if self.finished {
-            return false;
-        }
-        let span = t.span;
-        span.whole_length <= binary32::abs(self.played)
+        t.once && !self.finished && t.span.whole_length <= binary32::abs(self.played)
     }
 
     // The end of its turn: play-once may finish it, and its level makes its step. It is `finish` and `volume_stepped`
@@ -382,49 +347,27 @@ impl Voice {
     fn settled(self, t: Tick) -> Self
         ensures { result ≡ volume_stepped t.now (ended_of t self) }
     {
-        let clip2 = self.clip2;
-        let volume = self.volume;
-        let note = self.note;
         let out = self.played_out(t);
         Self {
             finished_at: time_of(out, t.now, self.finished_at),
-            last_sample_index: self.last_sample_index,
-            clip2,
-            volume: faded(volume, out, t),
-            loop_start_percent: self.loop_start_percent,
-            played: self.played,
-            last_sample_value: self.last_sample_value,
-            speed: self.speed,
-            note,
+            volume: faded(self.volume, out, t),
             finished: out | self.finished,
-            is_at_zero_crossing: self.is_at_zero_crossing,
-            phrase: self.phrase,
+            ..self
         }
     }
 
+    #[tactic(auto, unfolding(crate::specs::Voices::volume_stepped))]
     fn volume_stepped(self, now: usize) -> Self
         ensures { result ≡ volume_stepped now self }
     {
-        let clip2 = self.clip2;
-        let volume = self.volume;
-        let note = self.note;
         Self {
-            finished_at: self.finished_at,
-            last_sample_index: self.last_sample_index,
-            clip2,
-            volume: volume.stepped(now),
-            loop_start_percent: self.loop_start_percent,
-            played: self.played,
-            last_sample_value: self.last_sample_value,
-            speed: self.speed,
-            note,
-            finished: self.finished,
-            is_at_zero_crossing: self.is_at_zero_crossing,
-            phrase: self.phrase,
+            volume: self.volume.stepped(now),
+            ..self
         }
     }
 
     // The voice's whole sample. One that is to be removed is skipped, but for its level.
+    #[tactic(auto, unfolding(crate::specs::Voices::turn_of))]
     pub fn turn(self, t: Tick, data: &[u32]) -> Self
         ensures { result ≡ turn_of t «data».now self }
     {
@@ -435,16 +378,11 @@ impl Voice {
     }
 
     // Whether a turn that leaves it as `next` neither ends it nor finds it to be removed, before or after.
+    #[tactic(auto, unfolding(crate::specs::Gliding::goes_on_of))]
     fn goes_on(self, t: Tick, next: Self) -> bool
         ensures { result ≡ goes_on_of t self next }
     {
-        if next.played_out(t) {
-            return false;
-        }
-        if self.should_remove(t) {
-            return false;
-        }
-        !next.should_remove(t)
+        !next.played_out(t) && !self.should_remove(t) && !next.should_remove(t)
     }
 
     // Its whole sample, where it glides: `turn`, quickly.
@@ -458,49 +396,36 @@ impl Voice {
         if self.phrase != t.phrase {
             return otherwise;
         }
-        let volume = self.volume;
-        if !volume.keeps(t.now) {
+        if !self.volume.keeps(t.now) {
             return otherwise;
         }
-        let clip2 = self.clip2;
-        let mode = t.mode;
-        let span = t.span;
         let speed = self.speed * t.speed;
-        let near = clip2.quick_index(t.now, span.length, speed, span.data_length, mode);
-        let index = near.index;
-        if clip::NONE <= index {
+        let near = self
+            .clip2
+            .quick_index(t.now, t.span.length, speed, t.span.data_length, t.mode);
+        if clip::NONE <= near.index {
             return otherwise;
         }
-        let level = volume.level(t.now);
-        let next = quick_beside(clip2, index, t);
+        let level = self.volume.level(t.now);
+        let next = quick_beside(self.clip2, near.index, t);
         if clip::NONE <= next {
             return otherwise;
         }
-        self.quick_at(t, index, near_valued(near, next, t, data) * level)
+        self.quick_at(t, near.index, near_valued(near, next, t, data) * level)
     }
 
     // A quick turn from its index and what is heard there on. The voice is made here and not by a call, which would copy
     // all of it.
+    #[tactic(auto, unfolding(crate::specs::Gliding::quick_at))]
     pub fn quick_at(self, t: Tick, index: usize, value: f32) -> Quick
         ensures { result ≡ quick_at t self index value }
     {
-        let clip2 = self.clip2;
-        let volume = self.volume;
-        let note = self.note;
-        let speed = self.speed * t.speed;
         let sounded = Self {
-            finished_at: self.finished_at,
             last_sample_index: index,
-            clip2,
-            volume,
-            loop_start_percent: self.loop_start_percent,
-            played: self.played + speed,
+            played: self.played + self.speed * t.speed,
             last_sample_value: value,
-            speed: self.speed,
-            note,
-            finished: self.finished,
             is_at_zero_crossing: binary32::crossing(value, self.last_sample_value),
-            phrase: self.phrase,
+            ..self
         };
         Quick {
             voice: sounded,
@@ -509,24 +434,15 @@ impl Voice {
     }
 
     // Whether the voice may stand in a record whose clock is at `now`.
+    #[tactic(auto, unfolding(crate::specs::Voices::good_voice))]
     pub fn good(self, now: usize) -> bool
         ensures { result ≡ good_voice now self }
     {
-        if 8 <= self.phrase {
-            return false;
-        }
-        let clip2 = self.clip2;
-        if now < clip2.since {
-            return false;
-        }
-        if now < self.finished_at {
-            return false;
-        }
-        let volume = self.volume;
-        if !volume.good(now) {
-            return false;
-        }
-        clip2.good()
+        self.phrase < 8
+            && self.clip2.since <= now
+            && self.finished_at <= now
+            && self.volume.good(now)
+            && self.clip2.good()
     }
 }
 
@@ -548,6 +464,7 @@ fn faded(volume: Volume, out: bool, t: Tick) -> Volume
 }
 
 // Whether a finished voice goes, by what its note-off behaviour waits for.
+#[tactic(auto, unfolding(crate::specs::Voices::over_of))]
 fn over(behavior: NoteOffBehaviour, mute: bool, late: bool) -> bool
     ensures { result ≡ over_of behavior mute late }
 {

@@ -7,31 +7,29 @@ use lib.Ieee.{Float}
 use lib.Ieee.Bits.{is_true}
 use borrow.Author.Tests.{le-ltb}
 use Rattle.volume.specs.declared.Volume.{Volume}
-use Rattle.volume.specs.declared.LevelAnswer.TheVariants as level
-use Rattle.volume.specs.declared.VolumeAnswer.TheVariants as volume
-use Rattle.volume.specs.Levels.{level_of, toward_of, stepped_of, good_volume, level_refused_at, value_answer, to_of, step_answer, level_number, volume_number}
+use Rattle.std.specs.Prelude.{Ok}
+use Rattle.refusals.specs.Refusals.{code_of, row}
+use Rattle.refusals.specs.declared.Refusal.TheVariants.{BadArgument}
+use Rattle.volume.specs.Levels.{level_of, toward_of, stepped_of, good_volume, level_refused_at, value_answer, to_of, step_answer}
 
 -- a good volume within the clock's limit is not refused
 pub not_refused : (v : Volume) (now : ℕ) → now ≤ 2 ^ 48 → T (good_volume now v) → level_refused_at v now ≡ false
 unfolding level_refused_at
 not_refused v now h g = simp (le-ltb (2 ^ 48) now h, is_true (good_volume now v) g)
 
-level_number_lem : (b : Bool) (x : Float) → level_number (cond b level.Refused (level.Done x)) ≡ cond b 7 0
-level_number_lem true x = refl
-level_number_lem false x = refl
+-- of an answer by one row
+row_number : {A : Type 0} (b : Bool) (x : A) → code_of (row b BadArgument (Ok x)) ≡ cond b 7 0
+row_number true x = refl
+row_number false x = refl
 
-volume_number_lem : (b : Bool) (v : Volume) → volume_number (cond b volume.Refused (volume.Done v)) ≡ cond b 7 0
-volume_number_lem true v = refl
-volume_number_lem false v = refl
-
-pub value_number : (v : Volume) (now : ℕ) → level_number (value_answer v now) ≡ cond (level_refused_at v now) 7 0
+pub value_number : (v : Volume) (now : ℕ) → code_of (value_answer v now) ≡ cond (level_refused_at v now) 7 0
 unfolding value_answer
-value_number v now = level_number_lem (level_refused_at v now) (level_of v now)
+value_number v now = row_number (level_refused_at v now) (level_of v now)
 
-pub to_number : (v : Volume) (now duration : ℕ) (target : Float) → volume_number (to_of v now duration target) ≡ cond (level_refused_at v now || ltb (2 ^ 24) duration) 7 0
+pub to_number : (v : Volume) (now duration : ℕ) (target : Float) → code_of (to_of v now duration target) ≡ cond (level_refused_at v now || ltb (2 ^ 24) duration) 7 0
 unfolding to_of
-to_number v now duration target = volume_number_lem (level_refused_at v now || ltb (2 ^ 24) duration) (toward_of v now duration target)
+to_number v now duration target = row_number (level_refused_at v now || ltb (2 ^ 24) duration) (toward_of v now duration target)
 
-pub step_number : (v : Volume) (now : ℕ) → volume_number (step_answer v now) ≡ cond (level_refused_at v now) 7 0
+pub step_number : (v : Volume) (now : ℕ) → code_of (step_answer v now) ≡ cond (level_refused_at v now) 7 0
 unfolding step_answer
-step_number v now = volume_number_lem (level_refused_at v now) (stepped_of v now)
+step_number v now = row_number (level_refused_at v now) (stepped_of v now)

@@ -1,17 +1,16 @@
 -- What a volume reads at a time, how it changes, and when its parts are refused (document 01, module 3 and number 7). A
 -- volume is steady, `Static level`, or a ramp between two times and two levels, `Linear start end from target`.
 -- Definitions only. Assumes nothing.
-use Rattle.std.specs.Prelude.{ℕ, ◌+◌, ◌-◌, ◌^◌, min, Bool, true, false, not, ◌&&◌, ◌||◌, cond, leb, ltb, eqb, pos, Float}
+use Rattle.std.specs.Prelude.{ℕ, ◌+◌, ◌-◌, ◌^◌, min, Bool, true, false, not, ◌&&◌, ◌||◌, cond, leb, ltb, eqb, pos, Float, Result, Ok}
 use Rattle.std.specs.Float.{fin, binary32}
 use Rattle.std.specs.Float.Ieee.{add, sub, mul, div, eq}
 use Rattle.binary32.specs.Leaves.{as_float, min_of, max_of}
+use Rattle.refusals.specs.declared.Refusal.{Refusal}
+use Rattle.refusals.specs.declared.Refusal.TheVariants.{BadArgument}
+use Rattle.refusals.specs.Refusals.{row}
 use Rattle.volume.specs.declared.Volume.{Volume}
 use Rattle.volume.specs.declared.Volume.TheVariants.{Static, Linear}
 use Rattle.volume.specs.declared.Held.{Held}
-use Rattle.volume.specs.declared.LevelAnswer.{LevelAnswer}
-use Rattle.volume.specs.declared.LevelAnswer.TheVariants as level
-use Rattle.volume.specs.declared.VolumeAnswer.{VolumeAnswer}
-use Rattle.volume.specs.declared.VolumeAnswer.TheVariants as volume
 
 -- the Rust's default
 abbrev pub default_volume : Volume
@@ -77,22 +76,13 @@ good_volume now (Linear a b x y) = good_ramp a b now
 unfoldable pub level_refused_at : Volume → ℕ → Bool
 level_refused_at v now = ltb (2 ^ 48) now || not (good_volume now v)
 
-unfoldable pub value_answer : Volume → ℕ → LevelAnswer
-value_answer v now = cond (level_refused_at v now) level.Refused (level.Done (level_of v now))
+unfoldable pub value_answer : Volume → ℕ → Result Float Refusal
+value_answer v now = row (level_refused_at v now) BadArgument (Ok (level_of v now))
 
 -- and a duration above 2 ^ 24
-unfoldable pub to_of : Volume → ℕ → ℕ → Float → VolumeAnswer
+unfoldable pub to_of : Volume → ℕ → ℕ → Float → Result Volume Refusal
 to_of v now duration target =
-    cond (level_refused_at v now || ltb (2 ^ 24) duration) volume.Refused (volume.Done (toward_of v now duration target))
+    row (level_refused_at v now || ltb (2 ^ 24) duration) BadArgument (Ok (toward_of v now duration target))
 
-unfoldable pub step_answer : Volume → ℕ → VolumeAnswer
-step_answer v now = cond (level_refused_at v now) volume.Refused (volume.Done (stepped_of v now))
-
--- document 01's number for each case
-abbrev pub level_number : LevelAnswer → ℕ
-level_number (level.Done x) = 0
-level_number level.Refused = 7
-
-abbrev pub volume_number : VolumeAnswer → ℕ
-volume_number (volume.Done v) = 0
-volume_number volume.Refused = 7
+unfoldable pub step_answer : Volume → ℕ → Result Volume Refusal
+step_answer v now = row (level_refused_at v now) BadArgument (Ok (stepped_of v now))

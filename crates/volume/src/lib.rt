@@ -23,6 +23,8 @@ ghost use Rattle.volume.specs.Levels.{
   step_answer,
 };
 
+use refusals::Refusal;
+
 #[derive(Clone, Copy)]
 pub enum Volume {
     Static(f32),
@@ -32,18 +34,6 @@ pub enum Volume {
         value_start: f32,
         value_end: f32,
     },
-}
-
-#[derive(Clone, Copy)]
-pub enum LevelAnswer {
-    Done(f32),
-    Refused,
-}
-
-#[derive(Clone, Copy)]
-pub enum VolumeAnswer {
-    Done(Volume),
-    Refused,
 }
 
 // A level at a time, and whether the step there changes nothing.
@@ -58,6 +48,14 @@ const LAST_TIME: usize = 0x1_0000_0000_0000;
 
 const LONGEST: usize = 0x100_0000;
 
+impl Default for Volume {
+    ghost is_default = { λ volume. volume ≡ default_volume };
+
+    fn default() -> Self {
+        Volume::Static(1.0)
+    }
+}
+
 impl Volume {
     pub fn new(value: f32) -> Self
         ensures { result ≡ Volume.Static value }
@@ -65,19 +63,10 @@ impl Volume {
         Volume::Static(value)
     }
 
-    pub fn default() -> Self
-        ensures { result ≡ default_volume }
-    {
-        Volume::Static(1.0)
-    }
-
     pub fn is_static(self) -> bool
         ensures { result ≡ is_static_of self }
     {
-        match self {
-            Volume::Static(_) => true,
-            Volume::Linear { .. } => false,
-        }
+        matches!(self, Volume::Static(_))
     }
 
     pub fn is_static_and_mute(self) -> bool
@@ -95,36 +84,31 @@ impl Volume {
         Volume::Static(value)
     }
 
-    pub fn value(self, now: usize) -> LevelAnswer
+    #[tactic(auto, unfolding(crate::specs::Levels::value_answer))]
+    pub fn value(self, now: usize) -> Result<f32, Refusal>
         ensures { result ≡ value_answer self now }
     {
-        if self.refused_at(now) {
-            return LevelAnswer::Refused;
-        }
-        LevelAnswer::Done(self.level(now))
+        Refusal::BadArgument.when(self.refused_at(now))?;
+        Ok(self.level(now))
     }
 
-    pub fn to(self, now: usize, duration: usize, target: f32) -> VolumeAnswer
+    #[tactic(auto, unfolding(crate::specs::Levels::to_of))]
+    pub fn to(self, now: usize, duration: usize, target: f32) -> Result<Self, Refusal>
         ensures { result ≡ to_of self now duration target }
     {
-        if self.refused_at(now) {
-            return VolumeAnswer::Refused;
-        }
-        if duration > LONGEST {
-            return VolumeAnswer::Refused;
-        }
-        VolumeAnswer::Done(self.toward(now, duration, target))
+        Refusal::BadArgument.when(self.refused_at(now) || duration > LONGEST)?;
+        Ok(self.toward(now, duration, target))
     }
 
-    pub fn step(self, now: usize) -> VolumeAnswer
+    #[tactic(auto, unfolding(crate::specs::Levels::step_answer))]
+    pub fn step(self, now: usize) -> Result<Self, Refusal>
         ensures { result ≡ step_answer self now }
     {
-        if self.refused_at(now) {
-            return VolumeAnswer::Refused;
-        }
-        VolumeAnswer::Done(self.stepped(now))
+        Refusal::BadArgument.when(self.refused_at(now))?;
+        Ok(self.stepped(now))
     }
 
+    #[tactic(auto, unfolding(crate::specs::Levels::level_of))]
     pub fn level(self, now: usize) -> f32
         ensures { result ≡ level_of self now }
     {
@@ -139,6 +123,7 @@ impl Volume {
         }
     }
 
+    #[tactic(auto, unfolding(crate::specs::Levels::toward_of))]
     pub fn toward(self, now: usize, duration: usize, target: f32) -> Self
         ensures { result ≡ toward_of self now duration target }
     {
@@ -153,6 +138,8 @@ impl Volume {
         }
     }
 
+    // A ramp that goes on is made anew, as `copied` makes it, for the same reason.
+    #[tactic(auto, unfolding(crate::specs::Levels::stepped_of))]
     pub fn stepped(self, now: usize) -> Self
         ensures { result ≡ stepped_of self now }
     {
@@ -179,6 +166,7 @@ impl Volume {
     }
 
     // Whether the step at that time changes nothing.
+    #[tactic(auto, unfolding(crate::specs::Levels::keeps_of))]
     pub fn keeps(self, now: usize) -> bool
         ensures { result ≡ keeps_of self now }
     {
@@ -189,6 +177,7 @@ impl Volume {
     }
 
     // Both at once: what a ramp is made of is then read in one place.
+    #[tactic(auto, unfolding(crate::specs::Levels::level_of, crate::specs::Levels::keeps_of))]
     pub fn held(self, now: usize) -> Held
         ensures { result ≡ held_of self now }
     {
@@ -232,6 +221,7 @@ impl Volume {
     }
 
     // Whether the volume may stand in a record whose clock is at `now`.
+    #[tactic(auto, unfolding(crate::specs::Levels::good_volume))]
     pub fn good(self, now: usize) -> bool
         ensures { result ≡ good_volume now self }
     {
@@ -245,26 +235,19 @@ impl Volume {
         }
     }
 
+    #[tactic(auto, unfolding(crate::specs::Levels::level_refused_at))]
     fn refused_at(self, now: usize) -> bool
         ensures { result ≡ level_refused_at self now }
     {
-        if now > LAST_TIME {
-            return true;
-        }
-        !self.good(now)
+        now > LAST_TIME || !self.good(now)
     }
 }
 
+#[tactic(auto, unfolding(crate::specs::Levels::good_ramp))]
 fn good_ramp(start: usize, end: usize, now: usize) -> bool
     ensures { result ≡ good_ramp start end now }
 {
-    if end <= start {
-        return false;
-    }
-    if end - start > LONGEST {
-        return false;
-    }
-    start <= now
+    start < end && end - start <= LONGEST && start <= now
 }
 
 fn progress(start: usize, end: usize, now: usize) -> f32
@@ -279,15 +262,11 @@ fn progress(start: usize, end: usize, now: usize) -> f32
 pub fn since(start: usize, now: usize) -> usize
     ensures { result ≡ now - start }
 {
-    if now < start { 0 } else { now - start }
+    now.saturating_sub(start)
 }
 
 fn later(now: usize, duration: usize) -> usize
     ensures { result ≡ time_after now duration }
 {
-    if duration > usize::MAX - now {
-        usize::MAX
-    } else {
-        now + duration
-    }
+    now.saturating_add(duration)
 }

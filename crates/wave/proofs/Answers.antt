@@ -1,4 +1,5 @@
 -- The reader answers a rate, a number of channels and words exactly where the file is a good one that holds them: `Grammar: IsWave`. Assumes nothing.
+use Rattle.std.specs.Prelude.{Option, Some, None}
 use mathlib.Core.Path.{◌≡◌, refl, sym, ap, ◌∙◌, subst}
 use mathlib.Core.Bool.{Bool, true, ◌&&◌, ◌||◌}
 use mathlib.Core.List.{List, [], ◌∷◌, ◌++◌, append_assoc}
@@ -19,8 +20,6 @@ use Rattle.wave.specs.Reader.{missing, walk_of, good_riff, channels_at, good_for
 use Rattle.wave.specs.Reader.Reading.{is}
 use Rattle.wave.specs.Grammar.{Chunk, InChunks, IsWave}
 use Rattle.wave.specs.declared.chunks.Places.{Places}
-use Rattle.wave.specs.declared.chunks.Met.{Met}
-use Rattle.wave.specs.declared.chunks.Met.TheVariants as met
 use Rattle.wave.specs.declared.Wave.{Wave}
 use Rattle.wave.specs.declared.Judged.{Judged}
 use Rattle.wave.specs.declared.Judged.TheVariants.{Is, Refused}
@@ -34,7 +33,7 @@ use Rattle.wave.proofs.Frames.{two_to, four_to, two_from, four_from, body_is, Fo
 pub record Rests (f : List ℕ) (w : Wave) : Type 0 where
   pub places : Places
   pub riff : good_riff f ≡ true
-  pub met : walk_of f ≡ met.Is places
+  pub met : walk_of f ≡ Some places
   pub some : places.words ≡ 0 → ⊥
   pub format : good_format f places.format ≡ true
   pub even : four_at f (places.words + 4) % (4 * channels_at f places.format) ≡ 0
@@ -52,7 +51,7 @@ never e = let z : ◌≡◌ {A = ℕ} 0 1 = cc in omega arith
 abbrev Answers : List ℕ → Wave → Judged → Type 0
 Answers f w j = j ≡ Is w → Rests f w
 
-rests_at : (f : List ℕ) (w : Wave) (p : Places) → good_riff f ≡ true → walk_of f ≡ met.Is p → Answers f w (judged_at f p)
+rests_at : (f : List ℕ) (w : Wave) (p : Places) → good_riff f ≡ true → walk_of f ≡ Some p → Answers f w (judged_at f p)
 unfolding judged_at counted_judged
 rests_at f w p r m =
     both (Answers f w) (missing p.words) _ _ (λ _ e. absurd (never e))
@@ -71,9 +70,9 @@ rests_at f w p r m =
     })
     (λ _ e. absurd (never e))) (λ _ e. absurd (never e))) (λ _ e. absurd (never e)))
 
-rests_in : (f : List ℕ) (w : Wave) (m : Met) → good_riff f ≡ true → walk_of f ≡ m → Answers f w (judged_in f m)
-rests_in f w (met.Is p) r e = rests_at f w p r e
-rests_in f w met.Refused r e = λ g. absurd (never g)
+rests_in : (f : List ℕ) (w : Wave) (m : Option Places) → good_riff f ≡ true → walk_of f ≡ m → Answers f w (judged_in f m)
+rests_in f w (Some p) r e = rests_at f w p r e
+rests_in f w None r e = λ g. absurd (never g)
 
 pub judged_rests : (f : List ℕ) (w : Wave) → file_judged f ≡ Is w → Rests f w
 unfolding file_judged
@@ -270,7 +269,7 @@ module _ (f : List ℕ) (rate channels : ℕ) (words : List ℕ) (g : IsWave f r
     one_fact = g.one_fact;
   }
 
-  good_judged : (p : Places) → good_riff f ≡ true → walk_of f ≡ met.Is p → Held f p (g.format ∷ g.sound ∷ []) g.facts
+  good_judged : (p : Places) → good_riff f ≡ true → walk_of f ≡ Some p → Held f p (g.format ∷ g.sound ∷ []) g.facts
       → file_judged f ≡ Is (record { rate = rate; channels = channels; samples = g.samples; first = p.words + 8 })
       × (listed (λ (k : ℕ). four_at f (p.words + 8 + 4 * k)) 0 (channels * g.samples) ≡ words)
   good_judged p riff e held =
@@ -285,7 +284,7 @@ module _ (f : List ℕ) (rate channels : ℕ) (words : List ℕ) (g : IsWave f r
       let fact : good_fact f p.fact g.samples ≡ true =
       facts_good f p.fact g.samples g.facts (omega (arith, D.whole.sized)) held.facts_held g.fact_body in
       let some : (p.words ≡ 0 → ⊥) = λ z. let more = held.mains_held.1.some in omega arith in (
-        judged_riff f (met.Is p) riff e ∙ judged_by f p rate channels g.samples some is.0 g.some_channel is.1 is.2 size fact,
+        judged_riff f (Some p) riff e ∙ judged_by f p rate channels g.samples some is.0 g.some_channel is.1 is.2 size fact,
         rw (← g.whole_frames) (words_stand words f (p.words + 8) 0 (p.words + 8) _ (omega arith) g.words_fit (rw g.sound_body at (stands_body f p.words g.sound D))),
       )
 

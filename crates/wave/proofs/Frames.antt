@@ -1,4 +1,5 @@
 -- The chunks of a file of any form, in both directions: where a good walk has met `fmt ` and `data` the file is made of chunks, and over such a file the walk is good. Assumes nothing.
+use Rattle.std.specs.Prelude.{Some}
 use mathlib.Core.Path.{◌≡◌, refl, sym, ap, ◌∙◌}
 use mathlib.Core.Bool.{true}
 use mathlib.Core.List.{List, [], ◌∷◌, ◌++◌, append_assoc}
@@ -13,7 +14,6 @@ use Rattle.wave.specs.Fields.{two_at, four_at, riff_id, wave_id, format_id, data
 use Rattle.wave.specs.Reader.{nowhere, walk_of, good_riff}
 use Rattle.wave.specs.Grammar.{Chunk, Chunks, InChunks}
 use Rattle.wave.specs.declared.chunks.Places.{Places}
-use Rattle.wave.specs.declared.chunks.Met.TheVariants as met
 use Rattle.wave.proofs.Judgements.{RiffIs, riff_true}
 use Rattle.wave.proofs.Standing.{four_stands, behind_two, behind_four, two_splits, four_splits, four_below}
 use Rattle.wave.proofs.Tiles.{Stands, stands_size, stands_body}
@@ -93,7 +93,7 @@ module _ (f : List ℕ) (bytes : Bytes f) where
         }
     found_in (c ∷ d ∷ e ∷ mains) facts t m k = absurd m
 
-    pub found : walk_of f ≡ met.Is p → Found f p
+    pub found : walk_of f ≡ Some p → Found f p
     unfolding walk_of
     found e =
         let t = walk_tiled (length f) f 12 nowhere p [] [] bytes (omega arith) (omega arith) (record { mains_held = (refl, refl); facts_held = refl }) e in
@@ -103,7 +103,7 @@ module _ (f : List ℕ) (bytes : Bytes f) where
 pub record Walked (f : List ℕ) (format sound : Chunk) (facts : List Chunk) : Type 0 where
   pub places : Places
   pub riff : good_riff f ≡ true
-  pub met : walk_of f ≡ met.Is places
+  pub met : walk_of f ≡ Some places
   pub held : Held f places (format ∷ sound ∷ []) facts
 
 riff_good : (f : List ℕ) → RiffIs f → good_riff f ≡ true

@@ -1,4 +1,5 @@
 -- What a walk that isn't refused has met, in both directions: a walk over chunks that are in order meets them, and what a walk meets tiles the file. Assumes nothing.
+use Rattle.std.specs.Prelude.{Option, Some, None}
 use mathlib.Core.Path.{◌≡◌, sym, ap, ◌∙◌, subst}
 use mathlib.Core.List.{List, [], ◌∷◌, ◌++◌, append-nil}
 use mathlib.Core.Logic.{inl, inr}
@@ -14,8 +15,6 @@ use Rattle.wave.specs.Reader.{padded_at, missing, met_of, and_then, chunk_at, wa
 use Rattle.wave.specs.Grammar.{Chunk, chunk_bytes, Chunks}
 use Rattle.wave.specs.Grammar.Chunks.{none, main, fact, other}
 use Rattle.wave.specs.declared.chunks.Places.{Places}
-use Rattle.wave.specs.declared.chunks.Met.{Met}
-use Rattle.wave.specs.declared.chunks.Met.TheVariants.{Is, Refused}
 use Rattle.wave.proofs.Judgements.{both}
 use Rattle.wave.proofs.Walks.{walk_over, walk-next}
 use Rattle.wave.proofs.Tiles.{Stands, chunk_of, chunk_stands, chunk_behind, stands_id, stands_behind, stands_whole}
@@ -52,15 +51,15 @@ words_at at p = record { format = p.format; words = at; fact = p.fact }
 abbrev pub fact_at : ℕ → Places → Places
 fact_at at p = record { format = p.format; words = p.words; fact = at }
 
-refused : {p : Places} → Refused ≡ Is p → ⊥
+refused : {p : Places} → None ≡ Some p → ⊥
 refused e = let z : ◌≡◌ {A = ℕ} 0 1 = cc in omega arith
 
-data Case (id at : ℕ) (p : Places) : Met → Type 0 where
-  is_format : id ≡ format_id → p.format ≡ 0 → Case id at p (Is (format_at at p))
-  is_words : id ≡ data_id → (p.format ≡ 0 → ⊥) → p.words ≡ 0 → Case id at p (Is (words_at at p))
-  is_fact : id ≡ fact_id → p.fact ≡ 0 → Case id at p (Is (fact_at at p))
-  is_other : (id ≡ format_id → ⊥) → (id ≡ data_id → ⊥) → (id ≡ fact_id → ⊥) → Case id at p (Is p)
-  is_wrong : Case id at p Refused
+data Case (id at : ℕ) (p : Places) : Option Places → Type 0 where
+  is_format : id ≡ format_id → p.format ≡ 0 → Case id at p (Some (format_at at p))
+  is_words : id ≡ data_id → (p.format ≡ 0 → ⊥) → p.words ≡ 0 → Case id at p (Some (words_at at p))
+  is_fact : id ≡ fact_id → p.fact ≡ 0 → Case id at p (Some (fact_at at p))
+  is_other : (id ≡ format_id → ⊥) → (id ≡ data_id → ⊥) → (id ≡ fact_id → ⊥) → Case id at p (Some p)
+  is_wrong : Case id at p None
 
 case_of : (id at : ℕ) (p : Places) → Case id at p (met_of id at p)
 unfolding met_of
@@ -100,7 +99,7 @@ pub record Tiled (f : List ℕ) (at : ℕ) (q : Places) (mains facts : List Chun
   pub tiles : Chunks (drop at f) more_mains more_facts
   pub held : Held f q (mains ++ more_mains) (facts ++ more_facts)
 
-over_tiled : (f : List ℕ) (at : ℕ) (p q : Places) (mains facts : List Chunk) → length f ≤ at → Held f p mains facts → Is p ≡ Is q → Tiled f at q mains facts
+over_tiled : (f : List ℕ) (at : ℕ) (p q : Places) (mains facts : List Chunk) → length f ≤ at → Held f p mains facts → Some p ≡ Some q → Tiled f at q mains facts
 over_tiled f at p q mains facts h k e =
     let same : p ≡ q = cc in
     record {
@@ -111,8 +110,8 @@ over_tiled f at p q mains facts h k e =
     }
 
 module _ (f : List ℕ) (at : ℕ) (p q : Places) (mains facts : List Chunk) (bytes : Bytes f) (some : 0 < at)
-    (whole : at + 8 + padded_at f at ≤ length f) (behind : Places → Met)
-    (again : (p₁ : Places) (ms fs : List Chunk) → Held f p₁ ms fs → behind p₁ ≡ Is q → Tiled f (at + 8 + padded_at f at) q ms fs)
+    (whole : at + 8 + padded_at f at ≤ length f) (behind : Places → Option Places)
+    (again : (p₁ : Places) (ms fs : List Chunk) → Held f p₁ ms fs → behind p₁ ≡ Some q → Tiled f (at + 8 + padded_at f at) q ms fs)
     (held : Held f p mains facts) where
   stands : Stands f at (chunk_of f at)
   stands = chunk_stands f at bytes whole
@@ -120,7 +119,7 @@ module _ (f : List ℕ) (at : ℕ) (p q : Places) (mains facts : List Chunk) (by
   back : (ms fs : List Chunk) → Chunks (chunk_bytes (chunk_of f at) ++ drop (at + 8 + padded_at f at) f) ms fs → Chunks (drop at f) ms fs
   back ms fs t = rw (chunk_behind f at bytes whole) t
 
-  step_tiled : (m : Met) → Case (four_at f at) at p m → and_then m behind ≡ Is q → Tiled f at q mains facts
+  step_tiled : (m : Option Places) → Case (four_at f at) at p m → and_then m behind ≡ Some q → Tiled f at q mains facts
   step_tiled _ (is_format e z) r =
       let t = again (format_at at p) (mains ++ (chunk_of f at ∷ [])) facts (record {
         mains_held = more_format f at (chunk_of f at) p.format p.words mains held.mains_held z (record { some = some; named = e; stands = stands });
@@ -165,14 +164,14 @@ module _ (f : List ℕ) (at : ℕ) (p q : Places) (mains facts : List Chunk) (by
   step_tiled _ is_wrong r = absurd (refused r)
 
 pub walk_tiled : (n : ℕ) (f : List ℕ) (at : ℕ) (p q : Places) (mains facts : List Chunk) → Bytes f → 0 < at → length f - at ≤ n
-    → Held f p mains facts → walk_from n f at p ≡ Is q → Tiled f at q mains facts
+    → Held f p mains facts → walk_from n f at p ≡ Some q → Tiled f at q mains facts
 unfolding walk_from chunk_at
 walk_tiled zero f at p q mains facts bytes some h k = λ e. over_tiled f at p q mains facts (omega arith) k e
 walk_tiled (suc n) f at p q mains facts bytes some h k =
-    both (λ (m : Met). m ≡ Is q → Tiled f at q mains facts) (leb (length f) at) _ _
+    both (λ (m : Option Places). m ≡ Some q → Tiled f at q mains facts) (leb (length f) at) _ _
     (λ end e. over_tiled f at p q mains facts (leb-true _ _ end) k e)
-    (λ _. both (λ (m : Met). m ≡ Is q → Tiled f at q mains facts) (ltb (length f) (at + 8)) _ _ (λ _ e. absurd (refused e))
-    (λ _. both (λ (m : Met). m ≡ Is q → Tiled f at q mains facts) (ltb (length f) (at + 8 + padded_at f at)) _ _ (λ _ e. absurd (refused e))
+    (λ _. both (λ (m : Option Places). m ≡ Some q → Tiled f at q mains facts) (ltb (length f) (at + 8)) _ _ (λ _ e. absurd (refused e))
+    (λ _. both (λ (m : Option Places). m ≡ Some q → Tiled f at q mains facts) (ltb (length f) (at + 8 + padded_at f at)) _ _ (λ _ e. absurd (refused e))
     (λ whole e. step_tiled f at p q mains facts bytes some (ltb-false _ _ whole) (walk_from n f (at + 8 + padded_at f at))
     (λ p₁ ms fs held r. walk_tiled n f (at + 8 + padded_at f at) p₁ q ms fs bytes (omega arith) (omega (arith, ltb-false (length f) (at + 8 + padded_at f at) whole)) held r)
     k (met_of (four_at f at) at p) (case_of (four_at f at) at p) e)))
@@ -208,40 +207,40 @@ module _ (f : List ℕ) (c : Chunk) where
   only_fact a (x ∷ y ∷ cs) ds h k = absurd h
 
 module _ (id at : ℕ) (p : Places) where
-  meets_format : id ≡ format_id → p.format ≡ 0 → met_of id at p ≡ Is (format_at at p)
+  meets_format : id ≡ format_id → p.format ≡ 0 → met_of id at p ≡ Some (format_at at p)
   unfolding met_of
   meets_format e z = simp (eq-eqb _ _ e, eq-eqb _ _ z)
 
-  meets_words : id ≡ data_id → (p.format ≡ 0 → ⊥) → p.words ≡ 0 → met_of id at p ≡ Is (words_at at p)
+  meets_words : id ≡ data_id → (p.format ≡ 0 → ⊥) → p.words ≡ 0 → met_of id at p ≡ Some (words_at at p)
   unfolding met_of
   meets_words e z y =
       let else : (id ≡ format_id → ⊥) = λ g. omega arith in
       simp (ne_eqb _ _ else, eq-eqb _ _ e, ne_eqb _ _ z, eq-eqb _ _ y)
 
-  meets_fact : id ≡ fact_id → p.fact ≡ 0 → met_of id at p ≡ Is (fact_at at p)
+  meets_fact : id ≡ fact_id → p.fact ≡ 0 → met_of id at p ≡ Some (fact_at at p)
   unfolding met_of
   meets_fact e z =
       let no_format : (id ≡ format_id → ⊥) = λ g. omega arith in
       let no_words : (id ≡ data_id → ⊥) = λ g. omega arith in
       simp (ne_eqb _ _ no_format, ne_eqb _ _ no_words, eq-eqb _ _ e, eq-eqb _ _ z)
 
-  meets_other : (id ≡ format_id → ⊥) → (id ≡ data_id → ⊥) → (id ≡ fact_id → ⊥) → met_of id at p ≡ Is p
+  meets_other : (id ≡ format_id → ⊥) → (id ≡ data_id → ⊥) → (id ≡ fact_id → ⊥) → met_of id at p ≡ Some p
   unfolding met_of
   meets_other e g h = simp (ne_eqb _ _ e, ne_eqb _ _ g, ne_eqb _ _ h)
 
 pub record Reached (n : ℕ) (f : List ℕ) (at : ℕ) (p : Places) (mains facts : List Chunk) : Type 0 where
   pub end : Places
-  pub walks : walk_from n f at p ≡ Is end
+  pub walks : walk_from n f at p ≡ Some end
   pub held : Held f end mains facts
 
 -- over a chunk that stands here
 module _ (n : ℕ) (f : List ℕ) (at : ℕ) (p : Places) (c : Chunk) (s : Stands f at c) (steps : length f - at ≤ n) where
-  step_on : (q : Places) → met_of c.id at p ≡ Is q → walk_from n f at p ≡ walk_from (pred n) f (at + 8 + padded_at f at) q
+  step_on : (q : Places) → met_of c.id at p ≡ Some q → walk_from n f at p ≡ walk_from (pred n) f (at + 8 + padded_at f at) q
   step_on q e =
       let whole = stands_whole f at c s in
-      walk-next n f at p (omega arith) steps (omega arith) (omega arith) (Is q) (ap (λ (id : ℕ). met_of id at p) (stands_id f at c s) ∙ e)
+      walk-next n f at p (omega arith) steps (omega arith) (omega arith) (Some q) (ap (λ (id : ℕ). met_of id at p) (stands_id f at c s) ∙ e)
 
-  step_reached : (q : Places) (mains facts : List Chunk) → met_of c.id at p ≡ Is q
+  step_reached : (q : Places) (mains facts : List Chunk) → met_of c.id at p ≡ Some q
       → Reached (pred n) f (at + 8 + padded_at f at) q mains facts → Reached n f at p mains facts
   step_reached q mains facts e r = record { end = r.end; walks = step_on q e ∙ r.walks; held = r.held }
 

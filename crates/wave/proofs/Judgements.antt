@@ -1,4 +1,5 @@
 -- What the tests of a file say where they hold, and where the chunks that are met stand. Assumes nothing.
+use Rattle.std.specs.Prelude.{Option, Some, None}
 use mathlib.Core.Path.{◌≡◌, refl, subst}
 use mathlib.Core.Bool.{Bool, true, false, cond}
 use mathlib.Core.List.{List}
@@ -12,8 +13,6 @@ use Rattle.walks.proofs.Lists.Every.{both as and_both}
 use Rattle.wave.specs.Fields.{two_at, four_at, riff_id, wave_id, format_id, fact_id, data_id}
 use Rattle.wave.specs.Reader.{padded_at, nowhere, missing, met_of, and_then, chunk_at, walk_from, walk_of, good_riff, channels_at, good_format, good_fact, counted_judged, judged_at, judged_in, file_judged}
 use Rattle.wave.specs.declared.chunks.Places.{Places}
-use Rattle.wave.specs.declared.chunks.Met.{Met}
-use Rattle.wave.specs.declared.chunks.Met.TheVariants as met
 use Rattle.wave.specs.declared.Judged.TheVariants.{Is, Refused}
 
 -- ---- tests
@@ -94,11 +93,11 @@ module _ (f : List ℕ) (p : Places) where
 abbrev Ends : List ℕ → ℕ → Type 0
 Ends f at = at + 8 + four_at f (at + 4) ≤ length f
 
-abbrev pub Within : List ℕ → Met → Type 0
-Within f (met.Is p) = (p.format ≤ length f) × ((p.words ≡ 0) ⊎ Ends f p.words) × (p.fact ≤ length f)
-Within f met.Refused = Unit {0}
+abbrev pub Within : List ℕ → Option Places → Type 0
+Within f (Some p) = (p.format ≤ length f) × ((p.words ≡ 0) ⊎ Ends f p.words) × (p.fact ≤ length f)
+Within f None = Unit {0}
 
-meet_within : (f : List ℕ) (id at : ℕ) (p : Places) → Ends f at → Within f (met.Is p) → Within f (met_of id at p)
+meet_within : (f : List ℕ) (id at : ℕ) (p : Places) → Ends f at → Within f (Some p) → Within f (met_of id at p)
 unfolding met_of
 meet_within f id at p h k =
     both (Within f) (eqb id format_id) _ _
@@ -109,11 +108,11 @@ meet_within f id at p h k =
     (λ _. both (Within f) (missing p.fact) _ _ (λ _. (k.0, k.1, omega arith)) (λ _. tt))
     (λ _. k)))
 
-on_within : (f : List ℕ) (m : Met) (behind : Places → Met) → Within f m → ((q : Places) → Within f (met.Is q) → Within f (behind q)) → Within f (and_then m behind)
-on_within f (met.Is q) behind h k = k q h
-on_within f met.Refused behind h k = tt
+on_within : (f : List ℕ) (m : Option Places) (behind : Places → Option Places) → Within f m → ((q : Places) → Within f (Some q) → Within f (behind q)) → Within f (and_then m behind)
+on_within f (Some q) behind h k = k q h
+on_within f None behind h k = tt
 
-walk_within : (n : ℕ) (f : List ℕ) (at : ℕ) (p : Places) → Within f (met.Is p) → Within f (walk_from n f at p)
+walk_within : (n : ℕ) (f : List ℕ) (at : ℕ) (p : Places) → Within f (Some p) → Within f (walk_from n f at p)
 unfolding walk_from chunk_at padded_at
 walk_within zero f at p k = k
 walk_within (suc n) f at p k =
@@ -124,17 +123,17 @@ walk_within (suc n) f at p k =
     (meet_within f (four_at f at) at p (omega (arith, ltb-false (length f) (at + 8 + padded_at f at) whole)) k)
     (λ q h. walk_within n f (at + 8 + padded_at f at) q h))))
 
-pub places_within : (f : List ℕ) (p : Places) → walk_of f ≡ met.Is p → Within f (met.Is p)
+pub places_within : (f : List ℕ) (p : Places) → walk_of f ≡ Some p → Within f (Some p)
 unfolding walk_of
 places_within f p e = subst (Within f) e (walk_within (length f) f 12 nowhere (zero-le, inl refl, zero-le))
 
-pub places_below : (f : List ℕ) (p : Places) (n : ℕ) → walk_of f ≡ met.Is p → length f < n → (p.format < n) × (p.words < n) × (p.fact < n)
+pub places_below : (f : List ℕ) (p : Places) (n : ℕ) → walk_of f ≡ Some p → length f < n → (p.format < n) × (p.words < n) × (p.fact < n)
 places_below f p n e h =
     let w = places_within f p e in
     (omega arith, ⊎_elim (λ z. omega arith) (λ ends. omega arith) w.1, omega arith)
 
 -- ---- the file
-pub judged_riff : (f : List ℕ) (m : Met) → good_riff f ≡ true → walk_of f ≡ m → file_judged f ≡ judged_in f m
+pub judged_riff : (f : List ℕ) (m : Option Places) → good_riff f ≡ true → walk_of f ≡ m → file_judged f ≡ judged_in f m
 unfolding file_judged
 judged_riff f m h e = rw (h, e)
 

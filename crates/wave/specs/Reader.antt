@@ -1,10 +1,8 @@
 -- What the reader answers, front to back: it goes from chunk to chunk, keeps where `fmt `, `data` and `fact` stand, and
 -- judges them at the end. `Grammar.antt` says the same of a file as a whole. Definitions only.
-use Rattle.std.specs.Prelude.{Bool, cond, ◌&&◌, ◌||◌, List, ℕ, zero, suc, ◌+◌, ◌*◌, ◌/◌, ◌%◌, ltb, leb, eqb, length}
+use Rattle.std.specs.Prelude.{Option, Some, None, Bool, cond, ◌&&◌, ◌||◌, List, ℕ, zero, suc, ◌+◌, ◌*◌, ◌/◌, ◌%◌, ltb, leb, eqb, length}
 use Rattle.wave.specs.Fields.{two_at, four_at, riff_id, wave_id, format_id, fact_id, data_id, listed}
 use Rattle.wave.specs.declared.chunks.Places.{Places}
-use Rattle.wave.specs.declared.chunks.Met.{Met}
-use Rattle.wave.specs.declared.chunks.Met.TheVariants as met
 use Rattle.wave.specs.declared.Wave.{Wave}
 use Rattle.wave.specs.declared.Judged.{Judged}
 use Rattle.wave.specs.declared.Judged.TheVariants.{Is, Refused}
@@ -23,36 +21,36 @@ abbrev pub missing : ℕ → Bool
 missing place = eqb place 0
 
 -- a chunk of this id at a place: one `fmt `, one `data` behind it, at most one `fact`; others are skipped
-unfoldable pub met_of : ℕ → ℕ → Places → Met
+unfoldable pub met_of : ℕ → ℕ → Places → Option Places
 met_of id at p =
     cond (eqb id format_id)
-    (cond (missing p.format) (met.Is (record { format = at; words = p.words; fact = p.fact })) met.Refused)
+    (cond (missing p.format) (Some (record { format = at; words = p.words; fact = p.fact })) None)
     (cond (eqb id data_id)
-    (cond (missing p.format) met.Refused
-    (cond (missing p.words) (met.Is (record { format = p.format; words = at; fact = p.fact })) met.Refused))
+    (cond (missing p.format) None
+    (cond (missing p.words) (Some (record { format = p.format; words = at; fact = p.fact })) None))
     (cond (eqb id fact_id)
-    (cond (missing p.fact) (met.Is (record { format = p.format; words = p.words; fact = at })) met.Refused)
-    (met.Is p)))
+    (cond (missing p.fact) (Some (record { format = p.format; words = p.words; fact = at })) None)
+    (Some p)))
 
-abbrev pub and_then : Met → (Places → Met) → Met
-and_then (met.Is p) behind = behind p
-and_then met.Refused behind = met.Refused
+abbrev pub and_then : Option Places → (Places → Option Places) → Option Places
+and_then (Some p) behind = behind p
+and_then None behind = None
 
 -- the chunk at a place, whole, and what is met behind it
-unfoldable pub chunk_at : List ℕ → ℕ → Places → (ℕ → Places → Met) → Met
+unfoldable pub chunk_at : List ℕ → ℕ → Places → (ℕ → Places → Option Places) → Option Places
 chunk_at f at p behind =
-    cond (leb (length f) at) (met.Is p)
-    (cond (ltb (length f) (at + 8)) met.Refused
-    (cond (ltb (length f) (at + 8 + padded_at f at)) met.Refused
+    cond (leb (length f) at) (Some p)
+    (cond (ltb (length f) (at + 8)) None
+    (cond (ltb (length f) (at + 8 + padded_at f at)) None
     (and_then (met_of (four_at f at) at p) (behind (at + 8 + padded_at f at)))))
 
 -- in n steps at most
-unfoldable pub walk_from : ℕ → List ℕ → ℕ → Places → Met
-walk_from zero f at p = met.Is p
+unfoldable pub walk_from : ℕ → List ℕ → ℕ → Places → Option Places
+walk_from zero f at p = Some p
 walk_from (suc n) f at p = chunk_at f at p (walk_from n f)
 
 -- a chunk has at least eight bytes, so a step for each byte is enough
-unfoldable pub walk_of : List ℕ → Met
+unfoldable pub walk_of : List ℕ → Option Places
 walk_of f = walk_from (length f) f 12 nowhere
 
 -- ---- what they hold
@@ -95,9 +93,9 @@ judged_at f p =
     cond (missing p.words) Refused
     (cond (good_format f p.format) (counted_judged f p (4 * channels_at f p.format) (four_at f (p.words + 4))) Refused)
 
-abbrev pub judged_in : List ℕ → Met → Judged
-judged_in f (met.Is p) = judged_at f p
-judged_in f met.Refused = Refused
+abbrev pub judged_in : List ℕ → Option Places → Judged
+judged_in f (Some p) = judged_at f p
+judged_in f None = Refused
 
 unfoldable pub file_judged : List ℕ → Judged
 file_judged f = cond (good_riff f) (judged_in f (walk_of f)) Refused

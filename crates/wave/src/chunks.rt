@@ -13,54 +13,36 @@ pub struct Places {
     pub fact: usize,
 }
 
-#[derive(Clone, Copy)]
-pub enum Met {
-    Is(Places),
-    Refused,
-}
-
-// A chunk of this id at a place, behind others.
-fn meet(id: u32, at: usize, p: Places) -> Met
+// A chunk of this id at a place, behind others; None where it may not stand there.
+fn meet(id: u32, at: usize, p: Places) -> Option<Places>
     ensures { result ≡ met_of id at p }
 {
     if id == FORMAT {
         if p.format != 0 {
-            return Met::Refused;
+            return None;
         }
-        return Met::Is(Places {
-            format: at,
-            words: p.words,
-            fact: p.fact,
-        });
+        return Some(Places { format: at, ..p });
     }
     if id == DATA {
         if p.format == 0 {
-            return Met::Refused;
+            return None;
         }
         if p.words != 0 {
-            return Met::Refused;
+            return None;
         }
-        return Met::Is(Places {
-            format: p.format,
-            words: at,
-            fact: p.fact,
-        });
+        return Some(Places { words: at, ..p });
     }
     if id == FACT {
         if p.fact != 0 {
-            return Met::Refused;
+            return None;
         }
-        return Met::Is(Places {
-            format: p.format,
-            words: p.words,
-            fact: at,
-        });
+        return Some(Places { fact: at, ..p });
     }
-    Met::Is(p)
+    Some(p)
 }
 
 // From `WAVE` on, which ends at 12, to the end of the file.
-pub fn walk(file: &[u8]) -> Met
+pub fn walk(file: &[u8]) -> Option<Places>
     ensures { result ≡ walk_of file.now }
 {
     let all = file.len();
@@ -70,22 +52,18 @@ pub fn walk(file: &[u8]) -> Met
         words: 0,
         fact: 0,
     };
+    // No index is counted: each chunk says how far the next one is.
     while at < all {
         if all - at < 8 {
-            return Met::Refused;
+            return None;
         }
         let size = four_at(file, at + 4) as usize;
         let padded = size + size % 2;
         if all - at - 8 < padded {
-            return Met::Refused;
+            return None;
         }
-        match meet(four_at(file, at), at, places) {
-            Met::Refused => return Met::Refused,
-            Met::Is(next) => {
-                places = next;
-                at = at + 8 + padded;
-            }
-        }
+        places = meet(four_at(file, at), at, places)?;
+        at = at + 8 + padded;
     }
-    Met::Is(places)
+    Some(places)
 }

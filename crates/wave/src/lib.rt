@@ -15,7 +15,7 @@ ghost use Rattle.wave.specs.Files.{head_put, word_put};
 ghost use Rattle.wave.specs.Reader.{good_riff, good_format, good_fact, counted_judged, judged_at, file_judged, judged_number};
 ghost use Rattle.wave.specs.Memory.{fits_file, written_of, output_after, loads, loaded_of};
 
-use chunks::{Met, Places};
+use chunks::Places;
 use fields::{four_at, two_at};
 use headers::{head_fits, put_header};
 use ids::{RIFF, WAVE};
@@ -159,8 +159,8 @@ pub fn judge(file: &[u8]) -> Judged
 {
     if good_riff(file) {
         match chunks::walk(file) {
-            Met::Is(p) => judged_at(file, p),
-            Met::Refused => Judged::Refused,
+            Some(p) => judged_at(file, p),
+            None => Judged::Refused,
         }
     } else {
         Judged::Refused

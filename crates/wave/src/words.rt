@@ -61,10 +61,8 @@ pub fn put_words(l: Layout, memory: &[u32], out: &mut [u8])
     requires samples_in_bounds { 58 + 4 * (l.channels * l.samples) ≤ length out.old }
     ensures { out.new ≡ sets out.old 58 (word_bytes (frame_words l memory.now)) }
 {
-    let mut i: usize = 0;
-    while i < l.samples {
+    for i in 0..l.samples {
         put_frame(l, i, memory, out);
-        i += 1;
     }
 }
 
@@ -75,12 +73,10 @@ fn take_channel(file: &[u8], w: Wave, j: usize, start: usize, memory: &mut [u32]
     ensures { memory.new
         ≡ sets memory.old start (channel_words w.channels w.samples j (words_in file.now w)) }
 {
-    let mut i: usize = 0;
-    while i < w.samples {
+    for i in 0..w.samples {
         let at = w.first + 4 * (i * w.channels + j);
         let to = start + i;
         memory[to] = little_four(file[at], file[at + 1], file[at + 2], file[at + 3]);
-        i += 1;
     }
 }
 

@@ -1,4 +1,5 @@
 -- A file is answered exactly where it is of a known form: `Grammar: IsForm`, in both directions. Assumes nothing.
+use Rattle.std.specs.Prelude.{Some}
 use mathlib.Core.Path.{◌≡◌, refl, sym, ap, ◌∙◌, subst}
 use mathlib.Core.Bool.{true}
 use mathlib.Core.List.{List, [], ◌∷◌, map}
@@ -10,7 +11,6 @@ use Rattle.octets.specs.Octets.{Bytes}
 use Rattle.wave.specs.Fields.{two_at, four_at, number_bytes, listed}
 use Rattle.wave.specs.Reader.{walk_of, good_riff}
 use Rattle.wave.specs.declared.chunks.Places.{Places}
-use Rattle.wave.specs.declared.chunks.Met.TheVariants as met
 use Rattle.wave.proofs.Standing.{two_below, four_below, length-numbers, length-listed, number_on, numbers_stand, numbers_split, numbers_fit}
 use Rattle.wave.proofs.Tiles.{stands_size, stands_body, stands_long}
 use Rattle.wave.proofs.Held.{Held}
@@ -21,7 +21,6 @@ use Rattle.wave_forms.specs.Grammar.{IsForm, Tail, words_of_file}
 use Rattle.wave_forms.specs.Grammar.Tail.{plain, empty, extensible}
 use Rattle.wave_forms.specs.declared.formats.Form.{Form}
 use Rattle.wave_forms.specs.declared.Source.{Source}
-use Rattle.wave_forms.specs.declared.Judged.TheVariants.{Is}
 use Rattle.wave_forms.proofs.Widths.{bytes_few, kind_small, kind_some}
 use Rattle.wave_forms.proofs.Judgements.{FormIs, form_good, counted_is, judged_is, judged_riff}
 use Rattle.wave_forms.proofs.Sources.{Rests, judged_rests, count-is}
@@ -102,7 +101,7 @@ module _ (f : List ℕ) (bytes : Bytes f) where
             ap (λ (k : ℕ). k * b) (count-is c b n some even) ∙ mul_assoc c (n / (c * b)) b ∙ ap (λ (k : ℕ). c * k) (mul_comm (n / (c * b)) b) ∙ sym (mul_assoc c b (n / (c * b)))
             ∙ omega (arith, div-add-mod' n (c * b), mul_comm (c * b) (n / (c * b)))
 
-  pub answer_good : (s : Source) → file_judged f ≡ Is s → IsForm f s.form.rate s.form.channels s.form.tag s.form.bits (numbers_in f s)
+  pub answer_good : (s : Source) → file_judged f ≡ Some s → IsForm f s.form.rate s.form.channels s.form.tag s.form.bits (numbers_in f s)
   unfolding form_at number_at
   answer_good s e =
       let r = judged_rests f s e in
@@ -128,7 +127,7 @@ module _ (f : List ℕ) (rate channels tag bits : ℕ) (numbers : List ℕ) (g :
 
   pub record Known : Type 0 where
     pub places : Places
-    pub judged : file_judged f ≡ Is (source places)
+    pub judged : file_judged f ≡ Some (source places)
     pub same_numbers : numbers_in f (source places) ≡ numbers
 
   form_is : (p : Places) → Held f p (g.format ∷ g.sound ∷ []) g.facts → form_at f p.format ≡ (source p).form
@@ -143,7 +142,7 @@ module _ (f : List ℕ) (rate channels tag bits : ℕ) (numbers : List ℕ) (g :
       let is = tail_tag f p.format _ g.tailed small.0 small.1 i.field_is i.bits_is size i.behind in
       simp (is, i.channels_is, i.rate_is, i.block_is, i.bits_is)
 
-  good_judged : (p : Places) → good_riff f ≡ true → walk_of f ≡ met.Is p → Held f p (g.format ∷ g.sound ∷ []) g.facts → Known
+  good_judged : (p : Places) → good_riff f ≡ true → walk_of f ≡ Some p → Held f p (g.format ∷ g.sound ∷ []) g.facts → Known
   unfolding number_at
   good_judged p riff e held =
       let D = held.mains_held.1.stands in
@@ -162,7 +161,7 @@ module _ (f : List ℕ) (rate channels tag bits : ℕ) (numbers : List ℕ) (g :
       let room : 50 + 4 * (four_at f (p.words + 4) / b) < 2 ^ 32 = omega (arith, count, g.whole_frames, g.size_fits) in
       record {
         places = p;
-        judged = judged_riff f (met.Is p) riff e ∙ judged_is f p some (rw form (form_good (source p).form is))
+        judged = judged_riff f (Some p) riff e ∙ judged_is f p some (rw form (form_good (source p).form is))
             ∙ rw form (counted_is (source p).form (p.words + 8) (four_at f (p.words + 4)) even room ∙ rw (samples, count));
         same_numbers = numbers_stand b f (p.words + 8) numbers 0 (p.words + 8) _ (start (p.words + 8) b) g.numbers_fit (rw g.sound_body at (stands_body f p.words g.sound D));
       }

@@ -1,4 +1,5 @@
 -- What the tests of a form say where they hold, and the answers that they lead to. Assumes nothing.
+use Rattle.std.specs.Prelude.{Option, Some, None}
 use mathlib.Core.Path.{◌≡◌}
 use mathlib.Core.Bool.{true, false, ◌&&◌}
 use mathlib.Core.List.{List}
@@ -11,11 +12,9 @@ use Rattle.walks.proofs.Lists.Every.{both as and_both}
 use Rattle.wave.specs.Fields.{four_at}
 use Rattle.wave.specs.Reader.{walk_of, good_riff}
 use Rattle.wave.specs.declared.chunks.Places.{Places}
-use Rattle.wave.specs.declared.chunks.Met.{Met}
 use Rattle.wave_forms.specs.Reader.{known_form, good_form, form_at, counted_judged, judged_at, judged_in, file_judged}
 use Rattle.wave_forms.specs.Grammar.{Kind}
 use Rattle.wave_forms.specs.declared.formats.Form.{Form}
-use Rattle.wave_forms.specs.declared.Judged.TheVariants.{Is, Refused}
 use Rattle.wave_forms.proofs.Widths.{known_is, kind_of, bytes_few}
 
 -- ---- a good form
@@ -47,25 +46,25 @@ block_some o i =
 
 -- ---- answers
 module _ (o : Form) (first size : ℕ) where
-  pub counted_uneven : (size % o.block ≡ 0 → ⊥) → counted_judged o first size ≡ Refused
+  pub counted_uneven : (size % o.block ≡ 0 → ⊥) → counted_judged o first size ≡ None
   unfolding counted_judged
   counted_uneven h = simp (ne_eqb _ _ h)
 
-  pub counted_many : size % o.block ≡ 0 → 2 ^ 32 ≤ 50 + 4 * (size / (o.bits / 8)) → counted_judged o first size ≡ Refused
+  pub counted_many : size % o.block ≡ 0 → 2 ^ 32 ≤ 50 + 4 * (size / (o.bits / 8)) → counted_judged o first size ≡ None
   unfolding counted_judged
   counted_many h k = simp (eq-eqb _ _ h, le-ltb _ _ k)
 
   pub counted_is : size % o.block ≡ 0 → 50 + 4 * (size / (o.bits / 8)) < 2 ^ 32
-      → counted_judged o first size ≡ Is (record { form = o; samples = size / o.block; count = size / (o.bits / 8); first = first })
+      → counted_judged o first size ≡ Some (record { form = o; samples = size / o.block; count = size / (o.bits / 8); first = first })
   unfolding counted_judged
   counted_is h k = simp (eq-eqb _ _ h, lt-ltb _ _ k)
 
 module _ (f : List ℕ) (p : Places) where
-  pub judged_none : p.words ≡ 0 → judged_at f p ≡ Refused
+  pub judged_none : p.words ≡ 0 → judged_at f p ≡ None
   unfolding judged_at
   judged_none h = simp (eq-eqb _ _ h)
 
-  pub judged_other : (p.words ≡ 0 → ⊥) → good_form (form_at f p.format) ≡ false → judged_at f p ≡ Refused
+  pub judged_other : (p.words ≡ 0 → ⊥) → good_form (form_at f p.format) ≡ false → judged_at f p ≡ None
   unfolding judged_at
   judged_other h k = simp (ne_eqb _ _ h, k)
 
@@ -73,10 +72,10 @@ module _ (f : List ℕ) (p : Places) where
   unfolding judged_at
   judged_is h k = simp (ne_eqb _ _ h, k)
 
-pub judged_riff : (f : List ℕ) (m : Met) → good_riff f ≡ true → walk_of f ≡ m → file_judged f ≡ judged_in f m
+pub judged_riff : (f : List ℕ) (m : Option Places) → good_riff f ≡ true → walk_of f ≡ m → file_judged f ≡ judged_in f m
 unfolding file_judged
 judged_riff f m h e = rw (h, e)
 
-pub judged_no_riff : (f : List ℕ) → good_riff f ≡ false → file_judged f ≡ Refused
+pub judged_no_riff : (f : List ℕ) → good_riff f ≡ false → file_judged f ≡ None
 unfolding file_judged
 judged_no_riff f h = rw h

@@ -1,4 +1,5 @@
 -- Files of other forms are turned as `specs/Promised.antt` says. Assumes nothing.
+use Rattle.std.specs.Prelude.{Option, Some, None}
 use mathlib.Core.Path.{◌≡◌, refl, sym, ap, ◌∙◌}
 use mathlib.Core.Bool.{Bool, true, false, cond}
 use mathlib.Core.List.{List, [], ◌∷◌, ◌++◌, map}
@@ -32,8 +33,6 @@ use Rattle.wave_forms.specs.Grammar.Tail.{empty}
 use Rattle.wave_forms.specs.Turns.{bytes_of, turned_into, turn_answer, file_from, output_by, output_after}
 use Rattle.wave_forms.specs.Promised.{Formed, Promised}
 use Rattle.wave_forms.specs.declared.Source.{Source}
-use Rattle.wave_forms.specs.declared.Judged.{Judged}
-use Rattle.wave_forms.specs.declared.Judged.TheVariants.{Is, Refused}
 use Rattle.wave_forms.proofs.Answers.{source, words_are as words_of, answer_good, known}
 
 -- ---- answers
@@ -44,9 +43,9 @@ answered : (f : List ℕ) (room : ℕ) → Bytes f → ((turn_answer f room).num
 unfolding turn_answer
 answered f room bytes = go (file_judged f) refl
   where
-    go : (j : Judged) → file_judged f ≡ j → ((turned_into room j).number ≡ 17 → ⊥) → Formed f
-    go (Is s) e h = record { rate = s.form.rate; channels = s.form.channels; tag = s.form.tag; bits = s.form.bits; numbers = numbers_in f s; form = answer_good f bytes s e }
-    go Refused e h = absurd (h refl)
+    go : (j : Option Source) → file_judged f ≡ j → ((turned_into room j).number ≡ 17 → ⊥) → Formed f
+    go (Some s) e h = record { rate = s.form.rate; channels = s.form.channels; tag = s.form.tag; bits = s.form.bits; numbers = numbers_in f s; form = answer_good f bytes s e }
+    go None e h = absurd (h refl)
 
 numbered : (f : List ℕ) (room : ℕ) → ((turn_answer f room).number ≡ 0) ⊎ ((turn_answer f room).number ≡ 8) ⊎ (turn_answer f room ≡ record { length = 0; number = 17 })
 unfolding turn_answer
@@ -56,9 +55,9 @@ numbered f room = go (file_judged f)
     pick true P = inr (inl refl)
     pick false P = inl refl
 
-    go : (j : Judged) → ((turned_into room j).number ≡ 0) ⊎ ((turned_into room j).number ≡ 8) ⊎ (turned_into room j ≡ record { length = 0; number = 17 })
-    go (Is s) = pick (ltb room (bytes_of s)) _
-    go Refused = inr (inr refl)
+    go : (j : Option Source) → ((turned_into room j).number ≡ 0) ⊎ ((turned_into room j).number ≡ 8) ⊎ (turned_into room j ≡ record { length = 0; number = 17 })
+    go (Some s) = pick (ltb room (bytes_of s)) _
+    go None = inr (inr refl)
 
 held : (f out : List ℕ) → ((turn_answer f (length out)).number ≡ 0 → ⊥) → output_after f out ≡ out
 unfolding turn_answer output_after
@@ -68,9 +67,9 @@ held f out = go (file_judged f)
     pick true x h = refl
     pick false x h = absurd (h refl)
 
-    go : (j : Judged) → ((turned_into (length out) j).number ≡ 0 → ⊥) → output_by f out j ≡ out
-    go (Is s) h = pick (ltb (length out) (bytes_of s)) (file_from f s ++ drop (bytes_of s) out) h
-    go Refused h = refl
+    go : (j : Option Source) → ((turned_into (length out) j).number ≡ 0 → ⊥) → output_by f out j ≡ out
+    go (Some s) h = pick (ltb (length out) (bytes_of s)) (file_from f s ++ drop (bytes_of s) out) h
+    go None h = refl
 
 -- ---- words
 length-map : (h : ℕ → ℕ) (l : List ℕ) → length (map h l) ≡ length l

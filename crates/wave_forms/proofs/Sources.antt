@@ -1,4 +1,5 @@
 -- What an answer rests on, and what `turn` answers and leaves, case by case. Assumes nothing.
+use Rattle.std.specs.Prelude.{Option, Some, None}
 use mathlib.Core.Path.{◌≡◌, refl, sym, ap, ◌∙◌, subst}
 use mathlib.Core.Bool.{true}
 use mathlib.Core.List.{List}
@@ -13,16 +14,12 @@ use Rattle.wave.specs.Fields.{four_at, word_bytes}
 use Rattle.wave.specs.Files.{head_fits, head_put}
 use Rattle.wave.specs.Reader.{missing, walk_of, good_riff}
 use Rattle.wave.specs.declared.chunks.Places.{Places}
-use Rattle.wave.specs.declared.chunks.Met.{Met}
-use Rattle.wave.specs.declared.chunks.Met.TheVariants as met
 use Rattle.wave.proofs.Judgements.{both, places_below}
 use Rattle.wave.proofs.Standing.{length-listed}
 use Rattle.wave.proofs.Calls.{file_put, head_made, head_done}
 use Rattle.wave_forms.specs.Reader.{form_at, good_form, counted_judged, judged_at, judged_in, file_judged, words_in}
 use Rattle.wave_forms.specs.Turns.{bytes_of, turn_answer, output_after}
 use Rattle.wave_forms.specs.declared.Source.{Source}
-use Rattle.wave_forms.specs.declared.Judged.{Judged}
-use Rattle.wave_forms.specs.declared.Judged.TheVariants.{Is, Refused}
 use Rattle.wave_forms.proofs.Widths.{bytes_few}
 use Rattle.wave_forms.proofs.Judgements.{FormIs, form_true}
 
@@ -30,7 +27,7 @@ use Rattle.wave_forms.proofs.Judgements.{FormIs, form_true}
 pub record Rests (f : List ℕ) (s : Source) : Type 0 where
   pub places : Places
   pub riff : good_riff f ≡ true
-  pub met : walk_of f ≡ met.Is places
+  pub met : walk_of f ≡ Some places
   pub some : places.words ≡ 0 → ⊥
   pub form : FormIs (form_at f places.format)
   pub even : four_at f (places.words + 4) % (form_at f places.format).block ≡ 0
@@ -42,13 +39,13 @@ pub record Rests (f : List ℕ) (s : Source) : Type 0 where
     first = places.words + 8;
   }
 
-never : {s : Source} → Refused ≡ Is s → ⊥
+never : {s : Source} → None ≡ Some s → ⊥
 never e = let z : ◌≡◌ {A = ℕ} 0 1 = cc in omega arith
 
-abbrev Answers : List ℕ → Source → Judged → Type 0
-Answers f s j = j ≡ Is s → Rests f s
+abbrev Answers : List ℕ → Source → Option Source → Type 0
+Answers f s j = j ≡ Some s → Rests f s
 
-rests_at : (f : List ℕ) (s : Source) (p : Places) → good_riff f ≡ true → walk_of f ≡ met.Is p → Answers f s (judged_at f p)
+rests_at : (f : List ℕ) (s : Source) (p : Places) → good_riff f ≡ true → walk_of f ≡ Some p → Answers f s (judged_at f p)
 unfolding judged_at counted_judged
 rests_at f s p r m =
     let o = form_at f p.format in
@@ -68,11 +65,11 @@ rests_at f s p r m =
     })
     (λ _ e. absurd (never e))) (λ _ e. absurd (never e))) (λ _ e. absurd (never e)))
 
-rests_in : (f : List ℕ) (s : Source) (m : Met) → good_riff f ≡ true → walk_of f ≡ m → Answers f s (judged_in f m)
-rests_in f s (met.Is p) r e = rests_at f s p r e
-rests_in f s met.Refused r e = λ g. absurd (never g)
+rests_in : (f : List ℕ) (s : Source) (m : Option Places) → good_riff f ≡ true → walk_of f ≡ m → Answers f s (judged_in f m)
+rests_in f s (Some p) r e = rests_at f s p r e
+rests_in f s None r e = λ g. absurd (never g)
 
-pub judged_rests : (f : List ℕ) (s : Source) → file_judged f ≡ Is s → Rests f s
+pub judged_rests : (f : List ℕ) (s : Source) → file_judged f ≡ Some s → Rests f s
 unfolding file_judged
 judged_rests f s = both (Answers f s) (good_riff f) _ _ (λ r. rests_in f s (walk_of f) r refl) (λ _ e. absurd (never e))
 
@@ -88,7 +85,7 @@ pub record Sourced (s : Source) : Type 0 where
   pub count : s.count ≡ s.form.channels * s.samples
   pub room : 50 + 4 * s.count < 2 ^ 32
 
-pub sourced : (f : List ℕ) (s : Source) → file_judged f ≡ Is s → Sourced s
+pub sourced : (f : List ℕ) (s : Source) → file_judged f ≡ Some s → Sourced s
 sourced f s e =
     let r = judged_rests f s e in
     let o = form_at f r.places.format in
@@ -100,7 +97,7 @@ sourced f s e =
       room = r.room;
     })
 
-pub first_below : (f : List ℕ) (s : Source) (n : ℕ) → file_judged f ≡ Is s → length f < n → s.first < n + 8
+pub first_below : (f : List ℕ) (s : Source) (n : ℕ) → file_judged f ≡ Some s → length f < n → s.first < n + 8
 first_below f s n e h =
     let r = judged_rests f s e in
     let below = places_below f r.places n r.met h in
@@ -108,11 +105,11 @@ first_below f s n e h =
 
 -- ---- what `turn` answers and leaves
 module _ (f out : List ℕ) where
-  pub turn_refused : file_judged f ≡ Refused → (record { length = 0; number = 17 } ≡ turn_answer f (length out)) × (out ≡ output_after f out)
+  pub turn_refused : file_judged f ≡ None → (record { length = 0; number = 17 } ≡ turn_answer f (length out)) × (out ≡ output_after f out)
   unfolding turn_answer output_after
   turn_refused e = (rw e, rw e)
 
-  module _ (s : Source) (e : file_judged f ≡ Is s) where
+  module _ (s : Source) (e : file_judged f ≡ Some s) where
     pub turn_short : length out < bytes_of s → (record { length = bytes_of s; number = 8 } ≡ turn_answer f (length out)) × (out ≡ output_after f out)
     unfolding turn_answer output_after
     turn_short h = (rw (e, lt-ltb _ _ h), rw (e, lt-ltb _ _ h))

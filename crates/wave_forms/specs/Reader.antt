@@ -1,17 +1,13 @@
 -- What is read of a WAVE file of another form, behind the walk over its chunks that 10/12's reader makes. `Grammar.antt`
 -- says the same of a file as a whole. Definitions only.
-use Rattle.std.specs.Prelude.{Bool, cond, ◌&&◌, ◌||◌, List, ℕ, ◌+◌, ◌*◌, ◌/◌, ◌%◌, ◌^◌, ltb, leb, eqb}
+use Rattle.std.specs.Prelude.{Option, Some, None, Bool, cond, ◌&&◌, ◌||◌, List, ℕ, ◌+◌, ◌*◌, ◌/◌, ◌%◌, ◌^◌, ltb, leb, eqb}
 use Rattle.octets.specs.Octets.{bytes_at, little_of}
 use Rattle.wave.specs.Fields.{two_at, four_at, listed}
 use Rattle.wave.specs.Reader.{missing, walk_of, good_riff}
 use Rattle.wave.specs.declared.chunks.Places.{Places}
-use Rattle.wave.specs.declared.chunks.Met.{Met}
-use Rattle.wave.specs.declared.chunks.Met.TheVariants as met
 use Rattle.wave_forms.specs.Values.{number_word}
 use Rattle.wave_forms.specs.declared.formats.Form.{Form}
 use Rattle.wave_forms.specs.declared.Source.{Source}
-use Rattle.wave_forms.specs.declared.Judged.{Judged}
-use Rattle.wave_forms.specs.declared.Judged.TheVariants.{Is, Refused}
 
 -- ---- `fmt `, whose body begins 8 bytes behind its place
 
@@ -57,25 +53,25 @@ good_form o =
     && eqb o.block (o.channels * (o.bits / 8))
 
 -- ---- so many bytes of data from a place on: whole frames, and no more than 10/12's form has room for
-unfoldable pub counted_judged : Form → ℕ → ℕ → Judged
+unfoldable pub counted_judged : Form → ℕ → ℕ → Option Source
 counted_judged o first size =
     cond (eqb (size % o.block) 0)
     (cond (ltb (50 + 4 * (size / (o.bits / 8))) (2 ^ 32))
-    (Is (record { form = o; samples = size / o.block; count = size / (o.bits / 8); first = first })) Refused)
-    Refused
+    (Some (record { form = o; samples = size / o.block; count = size / (o.bits / 8); first = first })) None)
+    None
 
-unfoldable pub judged_at : List ℕ → Places → Judged
+unfoldable pub judged_at : List ℕ → Places → Option Source
 judged_at f p =
-    cond (missing p.words) Refused
+    cond (missing p.words) None
     (cond (good_form (form_at f p.format)) (counted_judged (form_at f p.format) (p.words + 8) (four_at f (p.words + 4)))
-    Refused)
+    None)
 
-abbrev pub judged_in : List ℕ → Met → Judged
-judged_in f (met.Is p) = judged_at f p
-judged_in f met.Refused = Refused
+abbrev pub judged_in : List ℕ → Option Places → Option Source
+judged_in f (Some p) = judged_at f p
+judged_in f None = None
 
-unfoldable pub file_judged : List ℕ → Judged
-file_judged f = cond (good_riff f) (judged_in f (walk_of f)) Refused
+unfoldable pub file_judged : List ℕ → Option Source
+file_judged f = cond (good_riff f) (judged_in f (walk_of f)) None
 
 -- ---- the numbers, of so many bytes each, one behind the other, and their words
 unfoldable pub number_at : List ℕ → ℕ → ℕ → ℕ

@@ -12,7 +12,7 @@ ghost use Rattle.wave_forms.specs.Turns.{turn_answer, output_after};
 
 use formats::{Form, form_at, good_form};
 use numbers::put_words;
-use wave::chunks::{Met, Places};
+use wave::chunks::Places;
 use wave::fields::four_at;
 
 // A file of a known form: `count` numbers, `samples` for each channel, frame by frame, stand from `first` on.
@@ -24,13 +24,8 @@ struct Source {
     pub first: usize,
 }
 
-#[derive(Clone, Copy)]
-enum Judged {
-    Is(Source),
-    Refused,
-}
-
 // 0 and how many bytes were written; 8 and how many there have to be room for; 17 and 0 for a file of no known form.
+// No Result: the C interface hands out both, as they are (host::files::turn_wave).
 #[derive(Clone, Copy)]
 pub struct Turned {
     pub length: usize,
@@ -38,18 +33,18 @@ pub struct Turned {
 }
 
 // So many bytes of data in a good form, from a place on.
-fn counted(o: Form, first: usize, size: u32) -> Judged
+fn counted(o: Form, first: usize, size: u32) -> Option<Source>
     requires { (0 < o.block) × (8 ≤ o.bits) }
     ensures { result ≡ counted_judged o first size }
 {
     if size % o.block != 0 {
-        return Judged::Refused;
+        return None;
     }
     let count = size / (o.bits / 8);
     if 0x3fff_fff3 < count {
-        return Judged::Refused;
+        return None;
     }
-    Judged::Is(Source {
+    Some(Source {
         form: o,
         samples: size / o.block,
         count: count as usize,
@@ -57,33 +52,29 @@ fn counted(o: Form, first: usize, size: u32) -> Judged
     })
 }
 
-fn judged_at(file: &[u8], p: Places) -> Judged
+fn judged_at(file: &[u8], p: Places) -> Option<Source>
     requires { (p.format < 2 ^ 63) × (p.words < 2 ^ 63) }
     ensures { result ≡ judged_at file.now p }
 {
     if p.words == 0 {
-        return Judged::Refused;
+        return None;
     }
     let o = form_at(file, p.format);
     if good_form(o) {
         counted(o, p.words + 8, four_at(file, p.words + 4))
     } else {
-        Judged::Refused
+        None
     }
 }
 
 // Whether a file is of a known form, and what it holds.
-fn judge(file: &[u8]) -> Judged
+fn judge(file: &[u8]) -> Option<Source>
     ensures { result ≡ file_judged file.now }
 {
-    if wave::good_riff(file) {
-        match wave::chunks::walk(file) {
-            Met::Is(p) => judged_at(file, p),
-            Met::Refused => Judged::Refused,
-        }
-    } else {
-        Judged::Refused
+    if !wave::good_riff(file) {
+        return None;
     }
+    judged_at(file, wave::chunks::walk(file)?)
 }
 
 // Writes the file of 10/12's form that holds the same recording, each number rounded once.
@@ -92,11 +83,11 @@ pub fn turn(file: &[u8], out: &mut [u8]) -> Turned
     ensures out_after { out.new ≡ output_after file.now out.old }
 {
     match judge(file) {
-        Judged::Refused => Turned {
+        None => Turned {
             length: 0,
             number: 17,
         },
-        Judged::Is(s) => {
+        Some(s) => {
             let length = 58 + 4 * s.count;
             if out.len() < length {
                 return Turned { length, number: 8 };

@@ -15,9 +15,7 @@ fn number_at(file: &[u8], at: usize, bytes: usize) -> u64
     ensures upper_bound { result < 256 ^ bytes }
 {
     let mut n: u64 = 0;
-    let mut i = bytes;
-    while 0 < i {
-        i -= 1;
+    for i in (0..bytes).rev() {
         n = n * 256 + byte_at(file, at + i) as u64;
     }
     n
@@ -31,10 +29,8 @@ pub fn put_words(file: &[u8], s: Source, out: &mut [u8])
 {
     let o = s.form;
     let bytes = (o.bits / 8) as usize;
-    let mut k: usize = 0;
-    while k < s.count {
+    for k in 0..s.count {
         let n = number_at(file, s.first + bytes * k, bytes);
         wave::put_word(out, 58 + 4 * k, word_of(o.tag, o.bits, n));
-        k += 1;
     }
 }

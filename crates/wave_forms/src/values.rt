@@ -5,13 +5,6 @@ ghost use Rattle.std.specs.Float.Ieee.{round, of_bits, to_bits, of_fields};
 ghost use Rattle.wave_forms.specs.Values.{whole_of, narrow_of, number_word};
 ghost use Rattle.wave_forms.specs.Reader.{known_form};
 
-// a - b, or 0 where b is more.
-fn less(a: u32, b: u32) -> u32
-    ensures { result ≡ a - b }
-{
-    if a < b { 0 } else { a - b }
-}
-
 // The pattern of m * 2^x / 2^1074. In the smallest floats of 32 bits, 2^-149 each, m has its top digit at `end` - 925:
 // what is above 24 digits is dropped. m is moved up until it has 64 digits, so that what is kept of it is a shift.
 // A carry goes into the exponent, and what is too large for any float is an infinity.
@@ -25,7 +18,7 @@ fn narrowed(m: u64, x: u32) -> u32
     }
     let zeros = u64::leading_zeros(m);
     let end = x + 64 - zeros;
-    let exponent = less(end, 949);
+    let exponent = end.saturating_sub(949);
     let digits = binary32::shifted(m << zeros, 989 + exponent - end);
     let pattern = exponent as u64 * 0x80_0000 + digits;
     if pattern < 0x7f80_0000 {

@@ -1,4 +1,4 @@
-use Rattle.std.proofs.Common.{◌≡◌, ◌≤◌, ◌-◌}
+use Rattle.std.proofs.Common.{◌≡◌, ◌≤◌}
 use Rattle.lent_changes.proofs.Goings.{begins, Goes}
 use Rattle.lent_changes.proofs.change.Given as goal
 
@@ -8,6 +8,3 @@ invariant-loop-i l = record {
   few : l.n ≤ 32;
   goes : Goes l.fn.change l.fn.c l.c l.p l.i;
 }
-
-abbrev pub decreases-loop-i : goal.decreases-loop-i
-decreases-loop-i l = l.n - l.i

@@ -8,6 +8,3 @@ invariant-loop-k l = record {
   long : 0 < l.k → length l.c.table ≡ 8;
   so_far : l.b ≡ beside_upto l.c.head l.c.table l.capacity l.k;
 }
-
-abbrev pub decreases-loop-k : goal.decreases-loop-k
-decreases-loop-k l = l.n - l.k

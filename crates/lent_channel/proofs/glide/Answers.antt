@@ -1,10 +1,10 @@
 -- `glide` meets its contract: voices take their turns quickly until one doesn't glide. Assumes nothing.
-use Rattle.std.proofs.Common.{rules, ◌≡◌, ◌≤◌, ◌+◌, length, set, sym, subst}
+use Rattle.std.proofs.Common.{rules, arith, ◌∙◌, ℕ, ap, ◌≡◌, ◌≤◌, ◌+◌, length, set, sym, subst}
 use lib.Ieee.{Float}
 use Rattle.channel.specs.Channels.{with_voices}
 use borrow.Author.Tests.{not-false}
 use Rattle.lent_channel.specs.declared.Going.{Going}
-use Rattle.lent_channel.specs.Turns.{Glides}
+use Rattle.lent_channel.specs.Turns.{Glides, glided_to}
 use Rattle.lent_channel.proofs.Gliding.{Still, still_first, still_next, still_glides}
 use Rattle.lent_channel.proofs.glide.Goals as goal
 
@@ -26,5 +26,7 @@ loop-i-preserved c =
 
 pub returns : goal.returns
 returns c =
-    subst (λ (h : Going). Glides c.args.t c.args.data.now c.args.n c.args.c.now c.args.g c.loop-i.c h) (sym c.glided-2.ensures)
+    let i : c.loop-i.i ≡ c.args.n = let upto = c.loop-i.invariant.upto in omega arith in
+    subst (λ (h : Going). Glides c.args.t c.args.data.now c.args.n c.args.c.now c.args.g c.loop-i.c h)
+    (ap (λ (k : ℕ). glided_to k c.loop-i.output) i ∙ sym c.glided-2.ensures)
     (still_glides c.args.t c.args.data.now c.args.n c.args.c.now c.args.g c.loop-i.invariant)

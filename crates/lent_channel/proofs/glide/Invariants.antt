@@ -4,6 +4,3 @@ use Rattle.lent_channel.proofs.glide.Given as goal
 
 abbrev pub invariant-loop-i : goal.invariant-loop-i
 invariant-loop-i l = Still l.t l.«data» l.n l.fn.c l.fn.g l.c l.i l.output
-
-abbrev pub decreases-loop-i : goal.decreases-loop-i
-decreases-loop-i l = l.n - l.i

@@ -7,6 +7,3 @@ invariant-loop-k l = record {
   upto : l.k ≤ l.n;
   so_far : table_upto l.c.head l.c.table l.capacity l.k ≡ true;
 }
-
-abbrev pub decreases-loop-k : goal.decreases-loop-k
-decreases-loop-k l = l.n - l.k

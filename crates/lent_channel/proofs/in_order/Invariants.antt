@@ -9,6 +9,3 @@ invariant-loop-k l = record {
   reach : l.upto ≡ reach_below (with_recording l.c.head l.c.table) l.k;
   so_far : is_in_order l.capacity (with_recording l.c.head l.c.table) l.k ≡ true;
 }
-
-abbrev pub decreases-loop-k : goal.decreases-loop-k
-decreases-loop-k l = l.n - l.k

@@ -7,6 +7,3 @@ invariant-loop-j l = record {
   upto : l.j ≤ l.k;
   so_far : l.ok ≡ good_upto l.c.head l.c.table l.capacity l.k l.j;
 }
-
-abbrev pub decreases-loop-j : goal.decreases-loop-j
-decreases-loop-j l = l.k - l.j

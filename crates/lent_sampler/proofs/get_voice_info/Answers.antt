@@ -1,37 +1,76 @@
 -- `get_voice_info` meets its contract: the figures of the voices so far stand in front of the list. Assumes nothing.
-use Rattle.std.proofs.Common.{rules, ◌≡◌, ◌<◌, ◌≤◌, Bool, true, ltb, length, set, refl, ap, ◌∙◌, arith}
-use Rattle.sampler.specs.Refusals.{channel_at, good_sampler}
+use Rattle.std.proofs.Common.{rules, ◌≡◌, ℕ, ◌<◌, ◌≤◌, Bool, ltb, length, get_or, set, refl, sym, ap, ◌∙◌, subst, arith}
+use Rattle.std.specs.Prelude.{Result, Ok, Err}
+use Rattle.refusals.specs.declared.Refusal.{Refusal}
+use Rattle.refusals.specs.declared.Refusal.TheVariants.{BeyondLimits, ShortList}
+use Rattle.refusals.specs.Refusals.{row}
+use Rattle.common_types.specs.Settings.{beyond_limits}
+use Rattle.channel.specs.declared.Channel.{Channel}
+use Rattle.channel.specs.Channels.{live}
+use Rattle.channel.proofs.Slots.{none}
+use Rattle.sampler.specs.Refusals.{channel_at}
 use Rattle.questions.specs.Questions.{figures_of}
-use Rattle.questions.specs.Sights.{seen_of}
-use Rattle.lent_sampler.specs.declared.Listing.{Listing}
-use Rattle.lent_sampler.specs.Lists.{seated, count_in, listing_by, answered_of}
-use Rattle.lent_sampler.proofs.Lists.{voice_there, few_looked, figured_upto, figured_next, info_turns, infos_room, infos_counted_lem, infos_listed}
+use Rattle.questions.specs.Lists.{voice_info_counted, voice_info_after}
+use Rattle.lent_sampler.proofs.Lists.{ok, seat_is, all_live, figured_upto, figured_next, infos_refused, infos_beyond, infos_short, infos_room, infos_listed}
+use Rattle.lent_sampler.specs.Lists.{seated}
 use Rattle.lent_sampler.proofs.get_voice_info.Goals as goal
 
+pub returns-in_err-rows : goal.returns-in_err-rows
+returns-in_err-rows c =
+    let e : c.from_residual.result ≡ Err c.in_err-rows.field-0.0 = search rules in
+    let at = c.args in
+    subst (λ (r : Result ℕ Refusal). (r ≡ voice_info_counted at.s.now at.channel at.params at.list.now) × (at.list.now ≡ voice_info_after at.s.now at.channel at.params at.list.now)) (sym e)
+    (infos_refused at.s.now at.channel at.params at.list.now _ c.in_err-rows.ensures)
+
+pub returns-in_err-when : goal.returns-in_err-when
+returns-in_err-when c =
+    let e : c.from_residual-in_err-when.result ≡ Err c.in_err-when.field-0.0 = search rules in
+    let at = c.args in
+    subst (λ (r : Result ℕ Refusal). (r ≡ voice_info_counted at.s.now at.channel at.params at.list.now) × (at.list.now ≡ voice_info_after at.s.now at.channel at.params at.list.now)) (sym e)
+    (infos_beyond at.s.now at.channel at.params at.list.now c.in_ok-rows.ensures _ (c.in_err-when.ensures ∙ ap (λ (b : Bool). row b BeyondLimits ok) c.beyond_limits.ensures))
+
+pub returns-in_err-when-2 : goal.returns-in_err-when-2
+returns-in_err-when-2 c =
+    let e : c.from_residual-in_err-when-2.result ≡ Err c.in_err-when-2.field-0.0 = search rules in
+    let at = c.args in
+    let within : ok ≡ row (beyond_limits at.params) BeyondLimits ok = c.in_ok-when.ensures ∙ ap (λ (b : Bool). row b BeyondLimits ok) c.beyond_limits.ensures in
+    subst (λ (r : Result ℕ Refusal). (r ≡ voice_info_counted at.s.now at.channel at.params at.list.now) × (at.list.now ≡ voice_info_after at.s.now at.channel at.params at.list.now)) (sym e)
+    (infos_short at.s.now at.channel at.params at.list.now c.in_ok-rows.ensures within _
+    (c.in_err-when-2.ensures ∙ ap (λ (d : Channel). row (ltb (length at.list.now) d.count) ShortList ok) c.seated-c.ensures.asked))
+
 pub loop-i-init : goal.loop-i-init
-loop-i-init c = record { upto = omega arith; figured = refl }
+loop-i-init c = refl
+
+pub bounds-list-i : goal.bounds-list-i
+bounds-list-i c =
+    let at = c.args in
+    let within : ok ≡ row (beyond_limits at.params) BeyondLimits ok = c.in_ok-when.ensures ∙ ap (λ (b : Bool). row b BeyondLimits ok) c.beyond_limits.ensures in
+    let fits : ok ≡ row (ltb (length at.list.now) (seated at.s.now at.channel).count) ShortList ok = c.in_ok-when-2.ensures ∙ ap (λ (d : Channel). row (ltb (length at.list.now) d.count) ShortList ok) c.seated-c.ensures.asked in
+    let full : length (live c.seated-c.result.now) ≡ (seated at.s.now at.channel).count = ap (λ (d : Channel). length (live d)) c.seated-c.ensures.asked ∙ all_live at.s.now at.channel c.in_ok-rows.ensures c.seated-c.ensures.whole in
+    let room : length (live c.seated-c.result.now) ≤ length at.list.now = omega (arith, full, infos_room at.s.now at.channel at.params at.list.now c.in_ok-rows.ensures within fits) in
+    let lt : c.loop-i.i < length (live c.seated-c.result.now) = omega (arith, ap length c.live-v-items.ensures) in
+    omega (arith, lt, room, c.loop-i.auto.list)
 
 pub loop-i-preserved : goal.loop-i-preserved
 loop-i-preserved c =
-    let asked = c.list_asked-asked.ensures.asked
-    ∙ ap (λ (b : Bool). listing_by (seen_of c.args.s.now) c.args.channel b (count_in true (seated c.args.s.now c.args.channel)) (count_in true (seated c.args.s.now c.args.channel)) (length c.args.list.now)) c.beyond_limits-beyond.ensures in
-    let all : c.list_asked-asked.result.turns ≡ info_turns c.args.s.now c.args.channel c.args.params (length c.args.list.now) = ap (λ (a : Listing). a.turns) asked in
-    let h : c.loop-i.i < info_turns c.args.s.now c.args.channel c.args.params (length c.args.list.now) = omega (arith, all) in
-    let few : c.loop-i.i < 32 = few_looked _ (seated c.args.s.now c.args.channel) c.loop-i.i c.list_asked-asked.ensures.whole h in
-    let fit = infos_room c.args.params (channel_at c.args.s.now 0) (good_sampler c.args.s.now) (ltb c.args.channel c.args.s.now.count) (seated c.args.s.now c.args.channel) (length c.args.list.now) c.loop-i.i h in
-    let info = c.info_at.ensures ∙ ap (figures_of c.args.params (channel_at c.args.s.now 0) (seated c.args.s.now c.args.channel)) (voice_there c.loop-i.i (seated c.args.s.now c.args.channel) few) in
-    record {
-      upto = omega arith;
-      figured = (λ q. set (c.loop-i.invariant.figured q) c.loop-i.i (info q)) ∙ figured_next c.args.params (channel_at c.args.s.now 0) (seated c.args.s.now c.args.channel) c.args.list.now c.loop-i.i fit.0 fit.1;
-    }
+    let at = c.args in
+    let within : ok ≡ row (beyond_limits at.params) BeyondLimits ok = c.in_ok-when.ensures ∙ ap (λ (b : Bool). row b BeyondLimits ok) c.beyond_limits.ensures in
+    let fits : ok ≡ row (ltb (length at.list.now) (seated at.s.now at.channel).count) ShortList ok = c.in_ok-when-2.ensures ∙ ap (λ (d : Channel). row (ltb (length at.list.now) d.count) ShortList ok) c.seated-c.ensures.asked in
+    let full : length (live c.seated-c.result.now) ≡ (seated at.s.now at.channel).count = ap (λ (d : Channel). length (live d)) c.seated-c.ensures.asked ∙ all_live at.s.now at.channel c.in_ok-rows.ensures c.seated-c.ensures.whole in
+    let room : length (live c.seated-c.result.now) ≤ length at.list.now = omega (arith, full, infos_room at.s.now at.channel at.params at.list.now c.in_ok-rows.ensures within fits) in
+    let lt : c.loop-i.i < length (live c.seated-c.result.now) = omega (arith, ap length c.live-v-items.ensures) in
+    let first : c.seated.result.now ≡ channel_at at.s.now 0 = c.seated.ensures.asked ∙ ap (channel_at at.s.now) (seat_is 0 (omega arith)) in
+    let info = c.info.ensures ∙ (λ q. figures_of at.params (first q) c.seated-c.result.now (get_or (c.live-v-items.ensures q) c.loop-i.i none)) in
+    (λ q. set (c.loop-i.invariant q) c.loop-i.i (info q)) ∙ figured_next at.params (channel_at at.s.now 0) c.seated-c.result.now at.list.now c.loop-i.i none lt room
 
 pub returns : goal.returns
 returns c =
-    let asked = c.list_asked-asked.ensures.asked
-    ∙ ap (λ (b : Bool). listing_by (seen_of c.args.s.now) c.args.channel b (count_in true (seated c.args.s.now c.args.channel)) (count_in true (seated c.args.s.now c.args.channel)) (length c.args.list.now)) c.beyond_limits-beyond.ensures in
-    let all : c.list_asked-asked.result.turns ≡ info_turns c.args.s.now c.args.channel c.args.params (length c.args.list.now) = ap (λ (a : Listing). a.turns) asked in
-    let e : c.loop-i.i ≡ info_turns c.args.s.now c.args.channel c.args.params (length c.args.list.now) = omega (arith, all, c.loop-i.invariant.upto) in (
-      c.listed.ensures ∙ ap answered_of asked ∙ infos_counted_lem c.args.s.now c.args.channel c.args.params c.args.list.now c.list_asked-asked.ensures.whole,
-      c.loop-i.invariant.figured ∙ ap (figured_upto c.args.params (channel_at c.args.s.now 0) (seated c.args.s.now c.args.channel) c.args.list.now) e
-          ∙ infos_listed c.args.s.now c.args.channel c.args.params c.args.list.now c.list_asked-asked.ensures.whole,
-    )
+    let at = c.args in
+    let within : ok ≡ row (beyond_limits at.params) BeyondLimits ok = c.in_ok-when.ensures ∙ ap (λ (b : Bool). row b BeyondLimits ok) c.beyond_limits.ensures in
+    let fits : ok ≡ row (ltb (length at.list.now) (seated at.s.now at.channel).count) ShortList ok = c.in_ok-when-2.ensures ∙ ap (λ (d : Channel). row (ltb (length at.list.now) d.count) ShortList ok) c.seated-c.ensures.asked in
+    let i_is : c.loop-i.i ≡ length (live c.seated-c.result.now) = omega (arith, ap length c.live-v-items.ensures) in
+    let is = c.loop-i.invariant
+    ∙ ap (figured_upto at.params (channel_at at.s.now 0) c.seated-c.result.now at.list.now) i_is
+    ∙ ap (λ (d : Channel). figured_upto at.params (channel_at at.s.now 0) d at.list.now (length (live d))) c.seated-c.ensures.asked in
+    let a = infos_listed at.s.now at.channel at.params at.list.now c.in_ok-rows.ensures within fits c.seated-c.ensures.whole _ is in
+    (ap (λ (d : Channel). Ok d.count) c.seated-c.ensures.asked ∙ a.0, a.1)

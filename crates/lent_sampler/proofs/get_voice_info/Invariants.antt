@@ -1,14 +1,7 @@
-use Rattle.std.proofs.Common.{◌≡◌, ◌-◌, ◌≤◌}
+use Rattle.std.proofs.Common.{◌≡◌}
 use Rattle.sampler.specs.Refusals.{channel_at}
-use Rattle.lent_sampler.specs.Lists.{seated}
 use Rattle.lent_sampler.proofs.Lists.{figured_upto}
 use Rattle.lent_sampler.proofs.get_voice_info.Given as goal
 
 abbrev pub invariant-loop-i : goal.invariant-loop-i
-invariant-loop-i l = record {
-  upto : l.i ≤ l.n;
-  figured : l.list ≡ figured_upto l.params (channel_at l.s 0) (seated l.s l.channel) l.fn.list l.i;
-}
-
-abbrev pub decreases-loop-i : goal.decreases-loop-i
-decreases-loop-i l = l.n - l.i
+invariant-loop-i l = l.list ≡ figured_upto l.params (channel_at l.s 0) l.c l.fn.list l.i

@@ -1,69 +1,66 @@
 -- `iter_active_notes` meets its contract: the notes of the voices so far stand in front of the list. Assumes nothing.
-use Rattle.std.proofs.Common.{rules, ◌≡◌, ℕ, ◌+◌, ◌%◌, ◌^◌, ◌<◌, ◌≤◌, Bool, true, false, cond, ltb, length, get_or, set, take, sym, ap, ◌∙◌, arith}
-use Rattle.common_types.specs.Notes.{into_u64_of}
+use Rattle.std.proofs.Common.{rules, ◌≡◌, ℕ, ◌+◌, ◌<◌, ◌≤◌, List, not, length, set, sym, ap, ◌∙◌, subst, arith}
+use Rattle.std.specs.Prelude.{Result, Ok, Err, count_by}
+use Rattle.refusals.specs.declared.Refusal.{Refusal}
 use Rattle.voice.specs.declared.Voice.{Voice}
-use Rattle.voice.specs.Voices.{blank_voice}
-use Rattle.sampler.specs.Refusals.{good_sampler}
-use Rattle.lent_sampler.specs.declared.Listing.{Listing}
-use Rattle.lent_sampler.specs.Lists.{seated, unlisted, listed_count, answered_of}
-use Rattle.lent_sampler.proofs.Lists.{voice_there, finished_so, unfinished_so, count_none, count_few, count_more, count_next, noted_upto, noted_none, noted_kept, noted_more, note_turns, few_looked, notes_fit, notes_after, notes_counted, notes_listed}
+use Rattle.channel.specs.Channels.{live}
+use Rattle.questions.specs.Questions.{in_front, notes_of, iter_active_notes_of, active_notes_after}
+use Rattle.lent_sampler.specs.Lists.{seated, unfinished}
+use Rattle.lent_sampler.proofs.Lists.{Noted, noted_none, noted_kept, noted_room, noted_more, noted_all, notes_refused, notes_short, notes_room, notes_listed}
 use Rattle.lent_sampler.proofs.iter_active_notes.Goals as goal
 use Rattle.lent_sampler.proofs.iter_active_notes.Goals.{then-not-v, else-not-v}
 
-pub loop-i-init : goal.loop-i-init
-loop-i-init c = record {
-  upto = omega arith;
-  counted = count_none false (seated c.args.s.now c.args.channel).voices;
-  noted = noted_none (seated c.args.s.now c.args.channel).voices c.args.notes.now;
-}
+pub returns-in_err-rows : goal.returns-in_err-rows
+returns-in_err-rows c =
+    let e : c.from_residual.result ≡ Err c.in_err-rows.field-0.0 = search rules in
+    let at = c.args in
+    subst (λ (r : Result ℕ Refusal). (r ≡ iter_active_notes_of at.s.now at.channel (length at.notes.now)) × (at.notes.now ≡ active_notes_after at.s.now at.channel at.notes.now)) (sym e)
+    (notes_refused at.s.now at.channel at.notes.now _ c.in_err-rows.ensures)
 
-pub offset_bounds-notes-k : goal.offset_bounds-notes-k
-offset_bounds-notes-k c =
-    let all : c.list_asked-asked.result.turns ≡ note_turns c.args.s.now c.args.channel (length c.args.notes.now) = ap (λ (a : Listing). a.turns) c.list_asked-asked.ensures.asked in
-    let h : c.loop-i.i < note_turns c.args.s.now c.args.channel (length c.args.notes.now) = omega (arith, all) in
-    let few : c.loop-i.i < 32 = few_looked _ (seated c.args.s.now c.args.channel) c.loop-i.i c.list_asked-asked.ensures.whole h in
-    omega (arith, few, c.loop-i.invariant.counted, count_few false c.loop-i.i (seated c.args.s.now c.args.channel).voices)
+pub returns-in_err-when : goal.returns-in_err-when
+returns-in_err-when c =
+    let e : c.from_residual-in_err-when.result ≡ Err c.in_err-when.field-0.0 = search rules in
+    let at = c.args in
+    subst (λ (r : Result ℕ Refusal). (r ≡ iter_active_notes_of at.s.now at.channel (length at.notes.now)) × (at.notes.now ≡ active_notes_after at.s.now at.channel at.notes.now)) (sym e)
+    (notes_short at.s.now at.channel at.notes.now c.in_ok-rows.ensures _ (c.unfinished-count.ensures ∙ ap unfinished c.seated-c.ensures.asked) _ c.in_err-when.ensures)
+
+pub loop-v-init : goal.loop-v-init
+loop-v-init c = noted_none _ c.args.notes.now
 
 pub bounds-notes-k : goal.bounds-notes-k
 bounds-notes-k c =
-    let all : c.list_asked-asked.result.turns ≡ note_turns c.args.s.now c.args.channel (length c.args.notes.now) = ap (λ (a : Listing). a.turns) c.list_asked-asked.ensures.asked in
-    let h : c.loop-i.i < note_turns c.args.s.now c.args.channel (length c.args.notes.now) = omega (arith, all) in
-    let few : c.loop-i.i < 32 = few_looked _ (seated c.args.s.now c.args.channel) c.loop-i.i c.list_asked-asked.ensures.whole h in
-    let fit = notes_fit (good_sampler c.args.s.now) (ltb c.args.channel c.args.s.now.count) (seated c.args.s.now c.args.channel) (length c.args.notes.now) c.loop-i.i h in
-    let same : c.voice_at-v.result ≡ get_or (seated c.args.s.now c.args.channel).voices c.loop-i.i blank_voice = c.voice_at-v.ensures ∙ voice_there c.loop-i.i (seated c.args.s.now c.args.channel) few in
-    let unfinished : (get_or (seated c.args.s.now c.args.channel).voices c.loop-i.i blank_voice).finished ≡ false = sym (ap (λ (u : Voice). u.finished) same) ∙ unfinished_so _ c.if-not-v.true in
-    omega (arith, c.loop-i.invariant.counted, count_more false blank_voice c.loop-i.i (seated c.args.s.now c.args.channel).voices fit.0 unfinished, fit.1, c.loop-i.auto.notes)
+    let at = c.args in
+    let same : c.live-v-items.result.now ≡ live (seated at.s.now at.channel) = c.live-v-items.ensures ∙ ap live c.seated-c.ensures.asked in
+    let counts : c.unfinished-count.result ≡ unfinished (seated at.s.now at.channel) = c.unfinished-count.ensures ∙ ap unfinished c.seated-c.ensures.asked in
+    let lt : c.loop-v.v-index < length c.live-v-items.result.now = omega arith in
+    let room : count_by (λ (v : Voice). not v.finished) c.live-v-items.result.now ≤ length at.notes.now =
+    subst (λ (l : List Voice). count_by (λ (v : Voice). not v.finished) l ≤ length at.notes.now) (sym same) (notes_room at.s.now at.channel at.notes.now c.in_ok-rows.ensures _ counts c.in_ok-when.ensures) in
+    omega (arith, noted_room c.live-v-items.result.now at.notes.now c.loop-v.invariant _ lt c.if-not-v.true room, c.loop-v.auto.notes)
 
-pub loop-i-preserved : goal.loop-i-preserved
-loop-i-preserved c =
-    let all : c.list_asked-asked.result.turns ≡ note_turns c.args.s.now c.args.channel (length c.args.notes.now) = ap (λ (a : Listing). a.turns) c.list_asked-asked.ensures.asked in
-    let h : c.loop-i.i < note_turns c.args.s.now c.args.channel (length c.args.notes.now) = omega (arith, all) in
-    let few : c.loop-i.i < 32 = few_looked _ (seated c.args.s.now c.args.channel) c.loop-i.i c.list_asked-asked.ensures.whole h in
-    let fit = notes_fit (good_sampler c.args.s.now) (ltb c.args.channel c.args.s.now.count) (seated c.args.s.now c.args.channel) (length c.args.notes.now) c.loop-i.i h in
-    let same : c.voice_at-v.result ≡ get_or (seated c.args.s.now c.args.channel).voices c.loop-i.i blank_voice = c.voice_at-v.ensures ∙ voice_there c.loop-i.i (seated c.args.s.now c.args.channel) few in
-    record {
-      upto = omega arith;
-      counted = c.listed_next-k.ensures
-          ∙ (λ q. cond (unlisted false (same q)) (c.loop-i.invariant.counted q) ((c.loop-i.invariant.counted q + 1) % 2 ^ 64))
-          ∙ count_next false blank_voice c.loop-i.i (seated c.args.s.now c.args.channel).voices fit.0 few;
-      noted = elim c.if-not-v.branch [
-        | then-not-v w ↦
-            let unfinished : (get_or (seated c.args.s.now c.args.channel).voices c.loop-i.i blank_voice).finished ≡ false = sym (ap (λ (u : Voice). u.finished) same) ∙ unfinished_so _ w.if-not-v.true in
-            let note : w.packed.result ≡ into_u64_of (get_or (seated c.args.s.now c.args.channel).voices c.loop-i.i blank_voice).note = w.packed.ensures ∙ ap (λ (u : Voice). into_u64_of u.note) same in
-            w.notes-is
-            ∙ (λ q. set (c.loop-i.invariant.noted q) (c.loop-i.invariant.counted q) (note q))
-            ∙ noted_more (seated c.args.s.now c.args.channel).voices c.args.notes.now blank_voice c.loop-i.i fit.0 unfinished
-            (omega (arith, count_more false blank_voice c.loop-i.i (seated c.args.s.now c.args.channel).voices fit.0 unfinished, fit.1))
-        | else-not-v w ↦
-            let finished : (get_or (seated c.args.s.now c.args.channel).voices c.loop-i.i blank_voice).finished ≡ true = sym (ap (λ (u : Voice). u.finished) same) ∙ finished_so _ w.if-not-v.false in
-            w.notes-is ∙ c.loop-i.invariant.noted ∙ noted_kept (seated c.args.s.now c.args.channel).voices c.args.notes.now blank_voice c.loop-i.i fit.0 finished
-      ];
-    }
+pub loop-v-preserved : goal.loop-v-preserved
+loop-v-preserved c =
+    let at = c.args in
+    let same : c.live-v-items.result.now ≡ live (seated at.s.now at.channel) = c.live-v-items.ensures ∙ ap live c.seated-c.ensures.asked in
+    let counts : c.unfinished-count.result ≡ unfinished (seated at.s.now at.channel) = c.unfinished-count.ensures ∙ ap unfinished c.seated-c.ensures.asked in
+    let lt : c.loop-v.v-index < length c.live-v-items.result.now = omega arith in
+    let room : count_by (λ (v : Voice). not v.finished) c.live-v-items.result.now ≤ length at.notes.now =
+    subst (λ (l : List Voice). count_by (λ (v : Voice). not v.finished) l ≤ length at.notes.now) (sym same) (notes_room at.s.now at.channel at.notes.now c.in_ok-rows.ensures _ counts c.in_ok-when.ensures) in
+    let z = c.loop-v.invariant in
+    let l : List Voice = c.live-v-items.result.now in
+    elim c.if-not-v.branch [
+      | then-not-v w ↦
+          let more = noted_more l at.notes.now z _ lt w.if-not-v.true (noted_room l at.notes.now z _ lt w.if-not-v.true room) in
+          subst (λ (k : ℕ). Noted l at.notes.now (c.loop-v.v-index + 1) k c.if-not-v.notes) (sym w.k-is)
+          (subst (λ (ns : List ℕ). Noted l at.notes.now (c.loop-v.v-index + 1) (c.loop-v.k + 1) ns) (sym (w.notes-is ∙ ap (set c.loop-v.notes c.loop-v.k) w.from.ensures)) more)
+      | else-not-v w ↦
+          subst (λ (k : ℕ). Noted l at.notes.now (c.loop-v.v-index + 1) k c.if-not-v.notes) (sym w.k-is)
+          (subst (λ (ns : List ℕ). Noted l at.notes.now (c.loop-v.v-index + 1) c.loop-v.k ns) (sym w.notes-is) (noted_kept l at.notes.now z _ lt w.if-not-v.false))
+    ]
 
 pub returns : goal.returns
 returns c =
-    let all : c.list_asked-asked.result.turns ≡ note_turns c.args.s.now c.args.channel (length c.args.notes.now) = ap (λ (a : Listing). a.turns) c.list_asked-asked.ensures.asked in
-    let e : c.loop-i.i ≡ note_turns c.args.s.now c.args.channel (length c.args.notes.now) = omega (arith, all, c.loop-i.invariant.upto) in (
-      c.listed.ensures ∙ ap answered_of c.list_asked-asked.ensures.asked ∙ notes_counted c.args.s.now c.args.channel (length c.args.notes.now),
-      c.loop-i.invariant.noted ∙ ap (noted_upto (seated c.args.s.now c.args.channel).voices c.args.notes.now) e ∙ notes_after (seated c.args.s.now c.args.channel) c.args.notes.now _ ∙ notes_listed c.args.s.now c.args.channel c.args.notes.now,
-    )
+    let at = c.args in
+    let same : c.live-v-items.result.now ≡ live (seated at.s.now at.channel) = c.live-v-items.ensures ∙ ap live c.seated-c.ensures.asked in
+    let counts : c.unfinished-count.result ≡ unfinished (seated at.s.now at.channel) = c.unfinished-count.ensures ∙ ap unfinished c.seated-c.ensures.asked in
+    notes_listed at.s.now at.channel at.notes.now c.in_ok-rows.ensures _ counts c.in_ok-when.ensures c.loop-v.notes
+    (noted_all c.live-v-items.result.now at.notes.now c.loop-v.v-index c.loop-v-test.false c.loop-v.invariant ∙ ap (λ (vs : List Voice). in_front (notes_of vs) at.notes.now) same)

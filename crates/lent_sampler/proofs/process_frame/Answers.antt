@@ -1,62 +1,46 @@
 -- `process_frame` meets its contract: what stands after i entries. Assumes nothing.
-use Rattle.std.proofs.Common.{rules, ◌≡◌, ◌*◌, ◌<◌, ℕ, min, length, ap, ◌∙◌, arith}
+use Rattle.std.proofs.Common.{rules, ◌≡◌, ℕ, ◌*◌, ◌<◌, length, sym, subst, arith}
+use Rattle.std.specs.Prelude.{Result, Err}
+use Rattle.refusals.specs.declared.Refusal.{Refusal}
+use Rattle.sampler.specs.Refusals.{frame_judged}
+use Rattle.sampler.specs.Samplers.{Frames, framed_of, frame_moved}
 use Rattle.sampler.proofs.Parts.{starts_at}
-use Rattle.lent_sampler.specs.declared.Framing.{Framing}
-use Rattle.lent_sampler.specs.declared.FrameDone.{FrameDone}
-use Rattle.lent_sampler.proofs.Turned.{steps, turned_starts, turned_low, turned_next, turned_ends, turned_moved}
+use Rattle.lent_sampler.specs.Hearing.{done_in, moved_in}
+use Rattle.lent_sampler.proofs.Turned.{refused, none_moved, turned_starts, turned_low, turned_few, turned_next, turned_ends, turned_moved}
 use Rattle.lent_sampler.proofs.process_frame.Goals as goal
 
+pub returns-in_err-frame_judged : goal.returns-in_err-frame_judged
+returns-in_err-frame_judged c =
+    let e : c.from_residual.result ≡ Err c.in_err-frame_judged.field-0.0 = search rules in
+    let at = c.args in
+    subst (λ (r : Result ℕ Refusal). (done_in r ≡ frame_judged at.s.now (length at.frame.now) at.params (length at.memory.now))
+    × Frames (framed_of at.s.now at.frame.now at.params at.memory.now) at.s.now at.frame.now at.memory.now
+    × (moved_in r ≡ frame_moved at.s.now at.frame.now at.params at.memory.now)) (sym e)
+    (c.in_err-frame_judged.ensures, refused at.s.now at.frame.now at.params at.memory.now _ (sym c.in_err-frame_judged.ensures), none_moved at.s.now at.frame.now at.params at.memory.now _ (sym c.in_err-frame_judged.ensures))
+
 pub loop-i-init : goal.loop-i-init
-loop-i-init c = record { upto = omega arith; turned = turned_starts c.args.s.now c.args.frame.now c.args.params c.args.memory.now }
+loop-i-init c = turned_starts c.args.s.now c.args.frame.now c.args.params c.args.memory.now (sym c.in_ok-frame_judged.ensures)
 
-pub overflow_add-end : goal.overflow_add-end
-overflow_add-end c =
-    let all : c.frame_asked-asked.result.entries ≡ steps c.args.s.now c.args.frame.now c.args.params c.args.memory.now = ap (λ (r : Framing). r.entries) c.frame_asked-asked.ensures in
-    let h : c.loop-i.i < steps c.args.s.now c.args.frame.now c.args.params c.args.memory.now = omega (arith, all) in
-    let low = turned_low c.args.s.now c.args.frame.now c.args.params c.args.memory.now c.loop-i.invariant.turned h in
-    let starts : c.part_start-start.result ≡ c.loop-i.i * c.args.s.now.capacity = starts_at c.loop-i.i c.args.s.now.capacity _ low.0 (c.part_start-start.ensures ∙ ap (λ (n : ℕ). min n 1 * c.args.s.now.capacity) c.frame_channel-j.ensures) in
-    omega (arith, starts, low.2)
-
-pub offset_bounds-s-j : goal.offset_bounds-s-j
-offset_bounds-s-j c =
-    let all : c.frame_asked-asked.result.entries ≡ steps c.args.s.now c.args.frame.now c.args.params c.args.memory.now = ap (λ (r : Framing). r.entries) c.frame_asked-asked.ensures in
-    let h : c.loop-i.i < steps c.args.s.now c.args.frame.now c.args.params c.args.memory.now = omega (arith, all) in
-    let low = turned_low c.args.s.now c.args.frame.now c.args.params c.args.memory.now c.loop-i.invariant.turned h in
-    omega (arith, low.0, c.frame_channel-j.ensures)
-
-pub bounds-s-j : goal.bounds-s-j
-bounds-s-j c =
-    let all : c.frame_asked-asked.result.entries ≡ steps c.args.s.now c.args.frame.now c.args.params c.args.memory.now = ap (λ (r : Framing). r.entries) c.frame_asked-asked.ensures in
-    let h : c.loop-i.i < steps c.args.s.now c.args.frame.now c.args.params c.args.memory.now = omega (arith, all) in
-    let low = turned_low c.args.s.now c.args.frame.now c.args.params c.args.memory.now c.loop-i.invariant.turned h in
-    omega (arith, low.0, c.frame_channel-j.ensures)
-
-pub part_sample-heard-requires : goal.part_sample-heard-requires
-part_sample-heard-requires c =
-    let all : c.frame_asked-asked.result.entries ≡ steps c.args.s.now c.args.frame.now c.args.params c.args.memory.now = ap (λ (r : Framing). r.entries) c.frame_asked-asked.ensures in
-    let h : c.loop-i.i < steps c.args.s.now c.args.frame.now c.args.params c.args.memory.now = omega (arith, all) in
-    let low = turned_low c.args.s.now c.args.frame.now c.args.params c.args.memory.now c.loop-i.invariant.turned h in
-    let starts : c.part_start-start.result ≡ c.loop-i.i * c.args.s.now.capacity = starts_at c.loop-i.i c.args.s.now.capacity _ low.0 (c.part_start-start.ensures ∙ ap (λ (n : ℕ). min n 1 * c.args.s.now.capacity) c.frame_channel-j.ensures) in
-    (omega arith, omega (arith, starts, low.2))
+pub overflow_add-moved : goal.overflow_add-moved
+overflow_add-moved c =
+    let h : c.loop-i.i < length c.args.frame.now = omega (arith, c.loop-i.invariant.entries) in
+    let low = turned_low c.args.s.now c.args.frame.now c.args.params c.args.memory.now c.loop-i.invariant h in
+    let starts : c.part_start-start.result ≡ c.loop-i.i * c.args.s.now.capacity = starts_at c.loop-i.i c.args.s.now.capacity _ low.0 c.part_start-start.ensures in
+    let both : length c.loop-i.s.channels ≡ 2 = search rules in
+    record { fits = omega (arith, turned_few c.args.s.now c.args.frame.now c.args.params c.args.memory.now c.loop-i.invariant h _ starts both c.part_sample-heard.new.c _ c.args.memory.now c.part_sample-heard.ensures.0) }
 
 pub loop-i-preserved : goal.loop-i-preserved
 loop-i-preserved c =
-    let all : c.frame_asked-asked.result.entries ≡ steps c.args.s.now c.args.frame.now c.args.params c.args.memory.now = ap (λ (r : Framing). r.entries) c.frame_asked-asked.ensures in
-    let h : c.loop-i.i < steps c.args.s.now c.args.frame.now c.args.params c.args.memory.now = omega (arith, all) in
-    let low = turned_low c.args.s.now c.args.frame.now c.args.params c.args.memory.now c.loop-i.invariant.turned h in
-    let starts : c.part_start-start.result ≡ c.loop-i.i * c.args.s.now.capacity = starts_at c.loop-i.i c.args.s.now.capacity _ low.0 (c.part_start-start.ensures ∙ ap (λ (n : ℕ). min n 1 * c.args.s.now.capacity) c.frame_channel-j.ensures) in
+    let h : c.loop-i.i < length c.args.frame.now = omega (arith, c.loop-i.invariant.entries) in
+    let low = turned_low c.args.s.now c.args.frame.now c.args.params c.args.memory.now c.loop-i.invariant h in
+    let starts : c.part_start-start.result ≡ c.loop-i.i * c.args.s.now.capacity = starts_at c.loop-i.i c.args.s.now.capacity _ low.0 c.part_start-start.ensures in
     let both : length c.loop-i.s.channels ≡ 2 = search rules in
-    record {
-      upto = omega arith;
-      turned = turned_next c.args.s.now c.args.frame.now c.args.params c.args.memory.now c.loop-i.invariant.turned h _ starts both _ c.frame_channel-j.ensures _ _ _ _
-          c.part_sample-heard.ensures.0 c.part_sample-heard.ensures.1 c.part_sample-heard.ensures.2 c.frame_moved-moved.ensures;
-    }
+    turned_next c.args.s.now c.args.frame.now c.args.params c.args.memory.now c.loop-i.invariant h _ starts both _ _ _
+    c.part_sample-heard.ensures.0 c.part_sample-heard.ensures.1 c.part_sample-heard.ensures.2
 
 pub returns : goal.returns
-returns c =
-    let all : c.frame_asked-asked.result.entries ≡ steps c.args.s.now c.args.frame.now c.args.params c.args.memory.now = ap (λ (r : Framing). r.entries) c.frame_asked-asked.ensures in
-    let e : c.loop-i.i ≡ steps c.args.s.now c.args.frame.now c.args.params c.args.memory.now = omega (arith, all, c.loop-i.invariant.upto) in (
-      ap (λ (r : FrameDone). r.number) c.frame_done.ensures ∙ ap (λ (r : Framing). r.number) c.frame_asked-asked.ensures,
-      turned_ends c.args.s.now c.args.frame.now c.args.params c.args.memory.now c.loop-i.invariant.turned e,
-      ap (λ (r : FrameDone). r.moved) c.frame_done.ensures ∙ turned_moved c.args.s.now c.args.frame.now c.args.params c.args.memory.now c.loop-i.invariant.turned e,
-    )
+returns c = (
+  c.in_ok-frame_judged.ensures,
+  turned_ends c.args.s.now c.args.frame.now c.args.params c.args.memory.now c.loop-i.invariant (omega arith),
+  turned_moved c.args.s.now c.args.frame.now c.args.params c.args.memory.now c.loop-i.invariant (omega arith),
+)

@@ -1,52 +1,45 @@
 -- `process_sample` meets its contract: what a sample leaves, refused or not. Assumes nothing.
-use Rattle.std.proofs.Common.{rules, ◌≡◌, ◌*◌, ℕ, length, set, sym, subst, ap, ◌∙◌, arith}
-use Rattle.binary32.specs.Leaves.{zero32}
-use Rattle.sampler.specs.Refusals.{sample_number}
-use Rattle.sampler.specs.Samplers.{with_channels}
+use Rattle.std.proofs.Common.{rules, ◌≡◌, ◌*◌, length, sym, subst, ap, arith}
+use Rattle.std.specs.Prelude.{Result, Ok, Err}
+use Rattle.refusals.specs.declared.Refusal.{Refusal}
+use Rattle.refusals.specs.Refusals.{code_of}
+use Rattle.sampler.specs.Refusals.{sample_judged}
 use Rattle.sampler.proofs.Rows.{sample_ready}
 use Rattle.sampler.proofs.Parts.{starts_at}
-use Rattle.lent_sampler.specs.declared.Sampled.{Sampled}
+use Rattle.lent_channel.specs.declared.Heard.{Heard}
 use Rattle.lent_sampler.proofs.Singles.{Leaves, is_refused, sample_so}
 use Rattle.lent_sampler.proofs.process_sample.Goals as goal
 
-pub returns-then-number-ne0 : goal.returns-then-number-ne0
-returns-then-number-ne0 c =
-    let is = c.refused.ensures ∙ ap (λ (n : ℕ). record { output = zero32; number = n; moved = 0 }) c.sample_asked-number.ensures in
-    subst (λ (r : Sampled). Leaves c.args.s.now c.args.channel c.args.input c.args.params c.args.memory.now r c.args.s.now c.args.memory.now) (sym is)
-    (is_refused c.args.s.now c.args.channel c.args.input c.args.params c.args.memory.now (λ e. c.if-number-ne0.true (c.sample_asked-number.ensures ∙ e)))
+pub returns-in_err-sample_judged : goal.returns-in_err-sample_judged
+returns-in_err-sample_judged c =
+    let e : c.from_residual.result ≡ Err c.in_err-sample_judged.field-0.0 = search rules in
+    subst (λ (r : Result Heard Refusal). Leaves c.args.s.now c.args.channel c.args.input c.args.params c.args.memory.now r c.args.s.now c.args.memory.now) (sym e)
+    (is_refused c.args.s.now c.args.channel c.args.input c.args.params c.args.memory.now _ (sym c.in_err-sample_judged.ensures))
 
 pub overflow_add-end : goal.overflow_add-end
 overflow_add-end c =
-    let accepted : sample_number c.args.s.now c.args.channel c.args.params (length c.args.memory.now) ≡ 0 = sym c.sample_asked-number.ensures ∙ c.if-number-ne0.false in
-    let ready = sample_ready c.args.s.now c.args.channel c.args.params (length c.args.memory.now) accepted in
+    let ready = sample_ready c.args.s.now c.args.channel c.args.params (length c.args.memory.now) (ap code_of (sym c.in_ok-sample_judged.ensures)) in
     let starts : c.part_start-start.result ≡ c.args.channel * c.args.s.now.capacity = starts_at c.args.channel c.args.s.now.capacity _ ready.below c.part_start-start.ensures in
     omega (arith, starts, ready.part)
 
 pub offset_bounds-s-channel : goal.offset_bounds-s-channel
 offset_bounds-s-channel c =
-    let accepted : sample_number c.args.s.now c.args.channel c.args.params (length c.args.memory.now) ≡ 0 = sym c.sample_asked-number.ensures ∙ c.if-number-ne0.false in
-    let ready = sample_ready c.args.s.now c.args.channel c.args.params (length c.args.memory.now) accepted in
+    let ready = sample_ready c.args.s.now c.args.channel c.args.params (length c.args.memory.now) (ap code_of (sym c.in_ok-sample_judged.ensures)) in
     omega (arith, ready.below)
 
 pub bounds-s-channel : goal.bounds-s-channel
-bounds-s-channel c =
-    let accepted : sample_number c.args.s.now c.args.channel c.args.params (length c.args.memory.now) ≡ 0 = sym c.sample_asked-number.ensures ∙ c.if-number-ne0.false in
-    let ready = sample_ready c.args.s.now c.args.channel c.args.params (length c.args.memory.now) accepted in
-    ready.below
+bounds-s-channel c = (sample_ready c.args.s.now c.args.channel c.args.params (length c.args.memory.now) (ap code_of (sym c.in_ok-sample_judged.ensures))).below
 
-pub part_sample-heard-requires : goal.part_sample-heard-requires
-part_sample-heard-requires c =
-    let accepted : sample_number c.args.s.now c.args.channel c.args.params (length c.args.memory.now) ≡ 0 = sym c.sample_asked-number.ensures ∙ c.if-number-ne0.false in
-    let ready = sample_ready c.args.s.now c.args.channel c.args.params (length c.args.memory.now) accepted in
+pub part_sample-requires : goal.part_sample-requires
+part_sample-requires c =
+    let ready = sample_ready c.args.s.now c.args.channel c.args.params (length c.args.memory.now) (ap code_of (sym c.in_ok-sample_judged.ensures)) in
     let starts : c.part_start-start.result ≡ c.args.channel * c.args.s.now.capacity = starts_at c.args.channel c.args.s.now.capacity _ ready.below c.part_start-start.ensures in
     (omega arith, omega (arith, starts, ready.part))
 
 pub returns : goal.returns
 returns c =
-    let accepted : sample_number c.args.s.now c.args.channel c.args.params (length c.args.memory.now) ≡ 0 = sym c.sample_asked-number.ensures ∙ c.if-number-ne0.false in
-    let ready = sample_ready c.args.s.now c.args.channel c.args.params (length c.args.memory.now) accepted in
+    let accepted : sample_judged c.args.s.now c.args.channel c.args.params (length c.args.memory.now) ≡ Ok tt = sym c.in_ok-sample_judged.ensures in
+    let ready = sample_ready c.args.s.now c.args.channel c.args.params (length c.args.memory.now) (ap code_of accepted) in
     let starts : c.part_start-start.result ≡ c.args.channel * c.args.s.now.capacity = starts_at c.args.channel c.args.s.now.capacity _ ready.below c.part_start-start.ensures in
     let both : length c.args.s.now.channels ≡ 2 = search rules in
-    subst (λ (r : Sampled). Leaves c.args.s.now c.args.channel c.args.input c.args.params c.args.memory.now r (with_channels (set c.args.s.now.channels c.args.channel c.part_sample-heard.new.c) c.args.s.now) c.part_sample-heard.new.memory) (sym c.answered.ensures)
-    (sample_so c.args.s.now c.args.channel c.args.input c.args.params c.args.memory.now accepted _ starts both _ _ _
-    c.part_sample-heard.ensures.0 c.part_sample-heard.ensures.1 c.part_sample-heard.ensures.2)
+    sample_so c.args.s.now c.args.channel c.args.input c.args.params c.args.memory.now accepted _ starts both _ _ _ c.part_sample.ensures.0 c.part_sample.ensures.1 c.part_sample.ensures.2

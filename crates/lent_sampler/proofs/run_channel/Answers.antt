@@ -1,6 +1,6 @@
 -- `run_channel` meets its contract. Assumes nothing.
 use Rattle.std.proofs.Common.{ne_eqb}
-use Rattle.lent_sampler.specs.Numbers.{run_seat}
+use Rattle.lent_sampler.specs.Runs.{run_seat}
 use Rattle.lent_sampler.proofs.run_channel.Goals as goal
 
 pub returns-then-count-eq1 : goal.returns-then-count-eq1

@@ -2,10 +2,10 @@
 use Rattle.listing.specs.Steps.{opened_of}
 use Rattle.listing.proofs.open.Goals as goal
 
-pub returns-in-Good : goal.returns-in-Good
+pub returns-in-Some : goal.returns-in-Some
 unfolding opened_of
-returns-in-Good c = simp (← c.read_header.ensures, c.in-Good.is, c.new.ensures, c.player_for.ensures)
+returns-in-Some c = simp (← c.read_header.ensures, c.in-Some.is, c.new.ensures, c.player_for.ensures)
 
-pub returns-in-Bad : goal.returns-in-Bad
+pub returns-in-None : goal.returns-in-None
 unfolding opened_of
-returns-in-Bad c = simp (← c.read_header.ensures, c.in-Bad.is, c.bad_line.ensures, c.player_for-in-Bad.ensures)
+returns-in-None c = simp (← c.read_header.ensures, c.in-None.is, c.bad_line.ensures, c.player_for-in-None.ensures)

@@ -11,4 +11,4 @@ slice_bounds-new-end c = sym (length-take-le _ _ (omega arith))
 pub returns : goal.returns
 unfolding player_of
 returns c = let size = length-take-le c.lent-n.result c.args.memory.now (omega arith) ∙ c.lent-n.ensures in
-    simp (c.default.ensures, c.new-a.ensures, c.channels.ensures, size)
+    simp (c.default.ensures, c.new-a.ensures, c.channels.ensures.value, size)

@@ -1,8 +1,9 @@
 -- Which phrase begins first of those that begin at a place or behind it. Assumes nothing.
-use Rattle.std.proofs.Common.{◌≡◌, ℕ, zero, suc, ◌<◌, ◌≤◌, Bool, true, false, cond, not, ◌&&◌, ◌||◌, eqb, ltb, leb, ◌≢◌, ◌⊎◌, List, get_or, refl, inl, inr, ⊎_elim, arith, ltb-false, ltb-true, ne_eqb, leb-false, leb-true}
-use borrow.Author.Tests.{eqb-false, not-true}
+use Rattle.std.proofs.Common.{◌≡◌, ℕ, zero, suc, ◌<◌, ◌≤◌, Bool, true, false, cond, not, ◌&&◌, ltb, leb, Option, Some, None, MatchOption, List, get_or, refl, arith, ltb-false, ltb-true, leb-false, leb-true}
+use Rattle.std.specs.Option.{option_map_or}
+use Rattle.std.proofs.lemmas.Option.{MatchOption-at_some}
+use borrow.Author.Tests.{not-true}
 use Rattle.walks.proofs.Lists.Every.{both}
-use Rattle.walks.proofs.Tests.{neither}
 use Rattle.phrases.specs.declared.Phrase.{Phrase}
 use Rattle.phrases.specs.Phrases.{no_phrase, no_samples}
 use Rattle.phrases.specs.Gathering.{first_below, first_from}
@@ -21,37 +22,29 @@ module _ (place : ℕ) (ps : List Phrase) where
     pub behind : place ≤ (get_or ps k no_phrase).start
     pub least : (i : ℕ) → i < n → 0 < (get_or ps i no_phrase).length → place ≤ (get_or ps i no_phrase).start → (get_or ps k no_phrase).start ≤ (get_or ps i no_phrase).start
 
-  -- one more looked at, where k was the answer
-  module _ (n k : ℕ) (l : n < 8) where
+  -- that is said of what is found of the first n
+  abbrev pub Found : ℕ → Option ℕ → Type 0
+  Found n found = MatchOption found (Over n) (First n)
+
+  -- one more looked at
+  module _ (n : ℕ) where
+    abbrev p : Phrase
+    p = get_or ps n no_phrase
+
     here : Bool
-    here = not (no_samples (get_or ps n no_phrase)) && leb place (get_or ps n no_phrase).start
+    here = not (no_samples p) && leb place p.start
 
-    sooner : Bool
-    sooner = eqb k 8 || ltb (get_or ps n no_phrase).start (get_or ps k no_phrase).start
-
-    here_is : here ≡ true → (0 < (get_or ps n no_phrase).length) × (place ≤ (get_or ps n no_phrase).start)
+    here_is : here ≡ true → (0 < p.length) × (place ≤ p.start)
     unfolding here
     here_is e =
-        let b = both (not (no_samples (get_or ps n no_phrase))) (leb place (get_or ps n no_phrase).start) e in
-        (holds_some (get_or ps n no_phrase) (not-true (no_samples (get_or ps n no_phrase)) b.0), leb-true place (get_or ps n no_phrase).start b.1)
+        let b = both (not (no_samples p)) (leb place p.start) e in
+        (holds_some p (not-true (no_samples p) b.0), leb-true place p.start b.1)
 
-    here_not : here ≡ false → 0 < (get_or ps n no_phrase).length → (get_or ps n no_phrase).start < place
+    here_not : here ≡ false → 0 < p.length → p.start < place
     unfolding here
     here_not e h =
-        let k : leb place (get_or ps n no_phrase).start ≡ false = rw (some_holds (get_or ps n no_phrase) h) at e in
-        leb-false place (get_or ps n no_phrase).start k
-
-    sooner_is : k < 8 → sooner ≡ true → (get_or ps n no_phrase).start < (get_or ps k no_phrase).start
-    unfolding sooner
-    sooner_is h e =
-        let t : ltb (get_or ps n no_phrase).start (get_or ps k no_phrase).start ≡ true = rw (ne_eqb k 8 (omega arith)) at e in
-        ltb-true (get_or ps n no_phrase).start (get_or ps k no_phrase).start t
-
-    sooner_not : sooner ≡ false → (k ≢ 8) × ((get_or ps k no_phrase).start ≤ (get_or ps n no_phrase).start)
-    unfolding sooner
-    sooner_not e =
-        let b = neither (eqb k 8) (ltb (get_or ps n no_phrase).start (get_or ps k no_phrase).start) e in
-        (eqb-false k 8 b.0, ltb-false (get_or ps n no_phrase).start (get_or ps k no_phrase).start b.1)
+        let k : leb place p.start ≡ false = rw (some_holds p h) at e in
+        leb-false place p.start k
 
     -- it is the first, or the one found still is
     Least : ℕ → ℕ → Type 0
@@ -61,24 +54,26 @@ module _ (place : ℕ) (ps : List Phrase) where
     unfolding Least
     now e least = record { below = omega arith; some = (here_is e).0; behind = (here_is e).1; least = below_more (Least n) n least (λ a b. omega arith) }
 
-    still : First n k → Least k n → First (suc n) k
+    still : (k : ℕ) → First n k → Least k n → First (suc n) k
     unfolding Least
-    still f e = record { below = omega (arith, f.below); some = f.some; behind = f.behind; least = below_more (Least k) n f.least e }
+    still k f e = record { below = omega (arith, f.below); some = f.some; behind = f.behind; least = below_more (Least k) n f.least e }
 
-    step : (h : Bool) → here ≡ h → (s : Bool) → sooner ≡ s → ((k ≡ 8) × Over n) ⊎ First n k
-        → ((cond (h && s) n k ≡ 8) × Over (suc n)) ⊎ First (suc n) (cond (h && s) n k)
+    step : (h : Bool) → here ≡ h → (found : Option ℕ) → Found n found
+        → Found (suc n) (cond (h && option_map_or (λ k. ltb p.start (get_or ps k no_phrase).start) found true) (Some n) found)
     unfolding Least
-    step true e true c (inl o) = inr (now e (λ i j a b. absurd (omega (arith, o.1 i j a))))
-    step true e true c (inr f) = inr (now e (λ i o a b. omega (arith, sooner_is (omega (arith, f.below)) c, f.least i o a b)))
-    step true e false c (inl o) = absurd ((sooner_not c).0 o.0)
-    step true e false c (inr f) = inr (still f (λ a b. (sooner_not c).1))
-    step false e s c (inl o) = inl (o.0, below_more (λ (i : ℕ). 0 < (get_or ps i no_phrase).length → (get_or ps i no_phrase).start < place) n o.1 (here_not e))
-    step false e s c (inr f) = inr (still f (λ a b. absurd (omega (arith, here_not e a))))
+    step true e None over = now e (λ i j a b. absurd (omega (arith, over i j a)))
+    step true e (Some k) f = go (ltb p.start (get_or ps k no_phrase).start) refl
+      where
+        go : (b : Bool) → ltb p.start (get_or ps k no_phrase).start ≡ b → Found (suc n) (cond b (Some n) (Some k))
+        go true c = now e (λ i o a b. omega (arith, ltb-true p.start (get_or ps k no_phrase).start c, f.least i o a b))
+        go false c = still k f (λ a b. ltb-false p.start (get_or ps k no_phrase).start c)
+    step false e None over = below_more (λ (i : ℕ). 0 < (get_or ps i no_phrase).length → (get_or ps i no_phrase).start < place) n over (here_not e)
+    step false e (Some k) f = still k f (λ a b. absurd (omega (arith, here_not e a)))
 
-  pub first : (n : ℕ) → n ≤ 8 → ((first_below place ps n ≡ 8) × Over n) ⊎ First n (first_below place ps n)
-  unfolding first_below here sooner
-  first zero l = inl (refl, λ i h. absurd (omega arith))
-  first (suc n) l = step n (first_below place ps n) (omega arith) (here n (first_below place ps n) (omega arith)) refl (sooner n (first_below place ps n) (omega arith)) refl (first n (omega arith))
+  pub first : (n : ℕ) → Found n (first_below place ps n)
+  unfolding first_below here
+  first zero = λ i h. absurd (omega arith)
+  first (suc n) = step n (here n) refl (first_below place ps n) (first n)
 
-  pub first_found : first_from place ps < 8 → First 8 (first_from place ps)
-  first_found h = ⊎_elim (λ o. absurd (omega (arith, o.0))) (λ f. f) (first 8 (omega arith))
+  pub first_found : (k : ℕ) → first_from place ps ≡ Some k → First 8 k
+  first_found k e = MatchOption-at_some (Over 8) (First 8) k e (first 8)

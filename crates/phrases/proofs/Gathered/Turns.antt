@@ -1,8 +1,9 @@
 -- Each turn of gathering moves the next phrase down: what holds between turns, `Turned`, and that eight turns move all.
 -- Assumes nothing.
-use Rattle.std.proofs.Common.{◌≡◌, ℕ, zero, suc, ◌+◌, ◌-◌, ◌<◌, ◌≤◌, Bool, true, false, cond, ◌||◌, ltb, ◌≢◌, ◌⊎◌, List, [], ◌∷◌, ◌++◌, length, get_or, take, drop, set, sym, refl, ap, ◌∙◌, subst, inl, inr, append_assoc, append-nil, eq-zero-or-pos, arith, length-set, get_or-set_other, get_or-set_same, le-ltb, lt-ltb, eq-eqb}
+use Rattle.std.proofs.Common.{◌≡◌, ℕ, zero, suc, ◌+◌, ◌-◌, ◌<◌, ◌≤◌, Bool, true, false, cond, ◌||◌, ltb, ◌≢◌, ◌⊎◌, Option, Some, None, List, [], ◌∷◌, ◌++◌, length, get_or, take, drop, set, sym, refl, ap, ◌∙◌, subst, inl, inr, append_assoc, append-nil, eq-zero-or-pos, arith, length-set, get_or-set_other, get_or-set_same, le-ltb, lt-ltb, eq-eqb}
 use native.Mathlib.Nat.{add-sub_cancel_left}
 use mathlib.Core.Option.{some}
+use Rattle.std.specs.Option.{option_map_or}
 use lib.ListN.{get_elem?}
 use Rattle.walks.specs.Each.{Each}
 use Rattle.walks.proofs.Tests.{either}
@@ -16,7 +17,7 @@ use Rattle.phrases.proofs.Rooms.{holds_some, some_holds, room_from, room_to, end
 use Rattle.phrases.proofs.Apart.{good_within, good_some}
 use Rattle.phrases.proofs.Gathered.Places.{nth, gathered_phrase, stored_all, Rising}
 use Rattle.phrases.proofs.Gathered.Sums.{sum_same, sum_at, sum_most, sum_larger, sum_one}
-use Rattle.phrases.proofs.Gathered.Firsts.{Over, First, first}
+use Rattle.phrases.proofs.Gathered.Firsts.{Over, First, Found, first}
 use Rattle.phrases.proofs.Gathered.Moved.{drop_further, moved_length, moved_rest, moved_there, moved_below, moved_front, moved_same}
 
 -- ---- samples of those that begin before a place
@@ -419,19 +420,15 @@ module _ (ps : List Phrase) (m : List ℕ) (fine : good_phrases (length m) ps �
     -- a turn moves one more, or all are moved
     next : (Over g.from ps 8 × (gather_next g ≡ g)) ⊎ (Turned ps m (gather_next g) × (waiting (gather_next g).from ps + 1 ≤ waiting g.from ps))
     unfolding gather_next
-    next = go (first g.from g.phrases 8 (omega arith))
+    next = go (first_from g.from g.phrases) (first g.from g.phrases 8)
       where
-        k : ℕ
-        k = first_from g.from g.phrases
-
-        go : ((k ≡ 8) × Over g.from g.phrases 8) ⊎ First g.from g.phrases 8 k
-            → (Over g.from ps 8 × (cond (ltb k 8) (gather_phrase k g) g ≡ g))
-            ⊎ (Turned ps m (cond (ltb k 8) (gather_phrase k g) g) × (waiting (cond (ltb k 8) (gather_phrase k g) g).from ps + 1 ≤ waiting g.from ps))
-        go (inl o) = inl (over o.1, rw (le-ltb k 8 (omega arith)))
-        go (inr f) =
+        go : (found : Option ℕ) → Found g.from g.phrases 8 found
+            → (Over g.from ps 8 × (option_map_or (λ k. gather_phrase k g) found g ≡ g))
+            ⊎ (Turned ps m (option_map_or (λ k. gather_phrase k g) found g) × (waiting (option_map_or (λ k. gather_phrase k g) found g).from ps + 1 ≤ waiting g.from ps))
+        go None o = inl (over o, refl)
+        go (Some k) f =
             let n = first_of k f in
-            let e : cond (ltb k 8) (gather_phrase k g) g ≡ moves k n = rw (lt-ltb k 8 f.below) (phrase_moves k n) in
-            inr (subst (λ (h : Gathering). Turned ps m h × (waiting h.from ps + 1 ≤ waiting g.from ps)) (sym e) (moves_turned k n, unfold moves in moves_fewer k n))
+            inr (subst (λ (h : Gathering). Turned ps m h × (waiting h.from ps + 1 ≤ waiting g.from ps)) (sym (phrase_moves k n)) (moves_turned k n, unfold moves in moves_fewer k n))
 
   over_none : (place : ℕ) → Over place ps 8 → waiting place ps ≡ 0
   unfolding waiting sum_below

@@ -1,58 +1,42 @@
--- `first_from` meets its contract. The loop's invariant: it found the first of those passed, and has where it begins. Assumes nothing.
-use Rattle.std.proofs.Common.{◌≡◌, ℕ, ◌+◌, Bool, true, false, cond, not, ◌&&◌, ◌||◌, eqb, ltb, leb, List, get_or, sym, refl, ap, ◌∙◌, add-one, arith}
-use borrow.Author.Tests.{eqb-false}
+-- `first_from` meets its contract. The loop's invariant: it found the first of those passed. Assumes nothing.
+use Rattle.std.proofs.Common.{rules, ◌≡◌, ℕ, ◌+◌, ◌<◌, Bool, true, false, cond, not, ◌&&◌, ltb, leb, Option, Some, None, IsTrue, IfSome, MatchOption, List, get_or, sym, refl, ◌∙◌, subst, add-one, arith}
+use Rattle.std.specs.Option.{option_map_or}
 use Rattle.phrases.specs.Phrases.{no_phrase, no_samples}
 use Rattle.phrases.specs.Gathering.{first_below}
 use Rattle.phrases.specs.declared.Phrase.{Phrase}
-use Rattle.phrases.proofs.first_from.Invariants.{Begins}
 use Rattle.phrases.proofs.first_from.Goals as goal
 use Rattle.phrases.proofs.first_from.Goals.{then-is_empty-place, else-is_empty-place}
 
 -- one more, by the test that the code makes
-module _ (place : ℕ) (all : List Phrase) (i found start : ℕ) (is : found ≡ first_below place all i) (begins : Begins all found start) where
+module _ (place : ℕ) (all : List Phrase) (i : ℕ) where
   abbrev p : Phrase
   p = get_or all i no_phrase
 
-  earlier : (b : Bool) → eqb found 8 ≡ b → (eqb found 8 || ltb p.start (get_or all found no_phrase).start) ≡ (eqb found 8 || ltb p.start start)
-  earlier true e = rw e
-  earlier false e = rw (begins (eqb-false found 8 e))
+  asked : (o : Option ℕ) (r : Bool) (Post : ℕ → Type 0) → ((k : ℕ) → Post k → r ≡ ltb p.start (get_or all k no_phrase).start) → MatchOption o (IsTrue r) Post
+      → r ≡ option_map_or (λ k. ltb p.start (get_or all k no_phrase).start) o true
+  asked None r Post same e = e
+  asked (Some k) r Post same e = same k e
 
-  next : (none test : Bool) → none ≡ no_samples p → ((not none && leb place p.start) && (eqb found 8 || ltb p.start start)) ≡ test
-      → first_below place all (i + 1) ≡ cond test i found
+  next : (o : Option ℕ) (none sooner test : Bool) → o ≡ first_below place all i → none ≡ no_samples p
+      → sooner ≡ option_map_or (λ k. ltb p.start (get_or all k no_phrase).start) o true
+      → ((not none && leb place p.start) && sooner) ≡ test → first_below place all (i + 1) ≡ cond test (Some i) o
   unfolding first_below
-  next none test e t = rw (add-one i, ← is, earlier (eqb found 8) refl, ← e, t)
+  next o none sooner test is e s t = rw (add-one i, ← is, ← s, ← e, t)
 
 pub loop-i-init : goal.loop-i-init
 unfolding first_below
-loop-i-init c = (omega arith, refl, λ h. absurd (h refl))
-
-pub offset_bounds-all-i : goal.offset_bounds-all-i
-offset_bounds-all-i c = omega arith
-
-pub bounds-all-i : goal.bounds-all-i
-bounds-all-i c = omega arith
-
-pub overflow_add-i : goal.overflow_add-i
-overflow_add-i c = omega arith
-
-pub loop-i-smaller : goal.loop-i-smaller
-loop-i-smaller c = omega arith
+loop-i-init c = (omega arith, refl, tt)
 
 pub loop-i-preserved : goal.loop-i-preserved
 loop-i-preserved c =
     let l = c.loop-i in
-    let a = c.args in
-    let n = next a.place a.all l.i l.found l.start l.invariant.1 l.invariant.2 c.is_empty.result in
+    let n = next c.args.place c.args.all l.i l.found c.is_empty.result c.is_none_or.result in
     let e = c.is_empty.ensures in
-    let begins : ℕ → ℕ = λ k. (get_or a.all k no_phrase).start in
+    let s = asked c.args.place c.args.all l.i l.found c.is_none_or.result _ (λ k e. search rules) c.is_none_or.ensures in
+    let before = c.loop-i-test.true in
     elim c.if-is_empty-place.branch [
-      | then-is_empty-place w ↦ (omega arith, w.found-is ∙ sym (n true e w.if-is_empty-place.true), λ h. w.start-is ∙ ap begins (sym w.found-is))
+      | then-is_empty-place w ↦
+          (omega arith, w.found-is ∙ sym (n true l.invariant.1 e s w.if-is_empty-place.true), subst (λ o. IfSome o (λ k. k < 8)) (sym w.found-is) before)
       | else-is_empty-place w ↦
-          (omega arith, w.found-is ∙ sym (n false e w.if-is_empty-place.false), λ h. w.start-is ∙ l.invariant.2 (λ z. h (w.found-is ∙ z)) ∙ ap begins (sym w.found-is))
+          (omega arith, w.found-is ∙ sym (n false l.invariant.1 e s w.if-is_empty-place.false), subst (λ o. IfSome o (λ k. k < 8)) (sym w.found-is) l.invariant.2)
     ]
-
-pub returns : goal.returns
-returns c =
-    let l = c.loop-i in
-    let e : l.i ≡ 8 = omega arith in
-    l.invariant.1 ∙ ap (first_below c.args.place c.args.all) e

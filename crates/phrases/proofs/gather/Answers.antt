@@ -1,13 +1,15 @@
 -- `gather` meets its contract. The loop's invariant: the turns left, from what is gathered, give what all of them give. Assumes nothing.
-use Rattle.std.proofs.Common.{◌≡◌, ℕ, suc, ◌+◌, ◌-◌, ◌<◌, ◌≤◌, List, length, get_or, set, sym, refl, ap, ◌∙◌, subst, arith, le-ltb, lt-ltb}
+use Rattle.std.proofs.Common.{◌≡◌, ℕ, suc, ◌+◌, ◌-◌, ◌<◌, ◌≤◌, Option, Some, None, List, length, get_or, set, sym, refl, ap, ◌∙◌, subst, arith}
+use Rattle.std.specs.Option.{option_map_or}
 use Rattle.phrases.specs.Phrases.{no_phrase, room_of}
 use Rattle.phrases.specs.Gathering.{Gathering, first_from, moved_down, gather_phrase, gather_next, gather_turns, gathering_of}
 use Rattle.phrases.specs.declared.Phrase.{Phrase}
 use Rattle.phrases.specs.declared.Room.{Room}
+use Rattle.phrases.proofs.Gathered.Firsts.{first_found}
 use Rattle.phrases.proofs.Fits.{Fits, room_down, turn_length, turn-fits}
 use Rattle.phrases.proofs.gather.Invariants.{Going}
 use Rattle.phrases.proofs.gather.Goals as goal
-use Rattle.phrases.proofs.gather.Goals.{then-k-lt-PHRASES, else-k-lt-PHRASES}
+use Rattle.phrases.proofs.gather.Goals.{in-Some, in_default}
 
 same : (g h : Gathering) → g.phrases ≡ h.phrases → g.memory ≡ h.memory → g.from ≡ h.from → g.to ≡ h.to → g ≡ h
 same g h ps m from to =
@@ -16,27 +18,28 @@ same g h ps m from to =
     e
 
 -- ---- a turn, by the number and the room that the code found
-module _ (g : Gathering) (k : ℕ) (found : k ≡ first_from g.from g.phrases) where
-  abbrev p : Phrase
-  p = get_or g.phrases k no_phrase
+module _ (g : Gathering) where
+  module _ (k : ℕ) (found : Some k ≡ first_from g.from g.phrases) where
+    abbrev p : Phrase
+    p = get_or g.phrases k no_phrase
 
-  module _ (r : Room) (is : r ≡ room_of p (length g.memory)) (some : k < 8) where
-    goes_down : Fits g → g.to ≤ r.from
-    goes_down fits = rw (is, found) (room_down g fits (rw found at some))
+    module _ (r : Room) (is : r ≡ room_of p (length g.memory)) where
+      goes_down : Fits g → g.to ≤ r.from
+      goes_down fits = rw is (room_down g fits k (first_found g.from g.phrases k (sym found)).behind)
 
-    moved_on : (g' : Gathering) → g'.phrases ≡ set g.phrases k (record { start = g.to; length = p.length })
-        → g'.memory ≡ moved_down r.from g.to (r.to - r.from) g.memory → g'.from ≡ r.to → g'.to ≡ g.to + (r.to - r.from) → g' ≡ gather_next g
-    unfolding gather_next gather_phrase
-    moved_on g' ps m from to =
-        same g' (gather_phrase k g) ps
-        (m ∙ ap (λ (q : Room). moved_down q.from g.to (q.to - q.from) g.memory) is)
-        (from ∙ ap (λ (q : Room). q.to) is)
-        (to ∙ ap (λ (q : Room). g.to + (q.to - q.from)) is)
-        ∙ rw (← found, lt-ltb k 8 some)
+      moved_on : (g' : Gathering) → g'.phrases ≡ set g.phrases k (record { start = g.to; length = p.length })
+          → g'.memory ≡ moved_down r.from g.to (r.to - r.from) g.memory → g'.from ≡ r.to → g'.to ≡ g.to + (r.to - r.from) → g' ≡ gather_next g
+      unfolding gather_next gather_phrase
+      moved_on g' ps m from to =
+          same g' (gather_phrase k g) ps
+          (m ∙ ap (λ (q : Room). moved_down q.from g.to (q.to - q.from) g.memory) is)
+          (from ∙ ap (λ (q : Room). q.to) is)
+          (to ∙ ap (λ (q : Room). g.to + (q.to - q.from)) is)
+          ∙ ap (λ (f : Option ℕ). option_map_or (λ k. gather_phrase k g) f g) found
 
-  stays : (g' : Gathering) → 8 ≤ k → g'.phrases ≡ g.phrases → g'.memory ≡ g.memory → g'.from ≡ g.from → g'.to ≡ g.to → g' ≡ gather_next g
+  stays : (g' : Gathering) → None ≡ first_from g.from g.phrases → g'.phrases ≡ g.phrases → g'.memory ≡ g.memory → g'.from ≡ g.from → g'.to ≡ g.to → g' ≡ gather_next g
   unfolding gather_next
-  stays g' none ps m from to = same g' g ps m from to ∙ rw (← found, le-ltb k 8 none)
+  stays g' none ps m from to = same g' g ps m from to ∙ ap (λ (f : Option ℕ). option_map_or (λ k. gather_phrase k g) f g) none
 
 -- ---- the turns left
 module _ {all : List Phrase} {m : List ℕ} {turn : ℕ} {g : Gathering} (go : Going all m turn g) where
@@ -61,57 +64,21 @@ pub loop-turn-init : goal.loop-turn-init
 unfolding gathering_of
 loop-turn-init c = record { upto = omega arith; left = refl; fits = record { down = omega arith; inside = omega arith }; size = refl }
 
-pub offset_bounds-moved-k : goal.offset_bounds-moved-k
-offset_bounds-moved-k c = omega arith
-
-pub bounds-moved-k : goal.bounds-moved-k
-bounds-moved-k c = omega arith
-
-pub overflow_sub-n : goal.overflow_sub-n
-overflow_sub-n c = omega arith
-
 pub move_down-requires : goal.move_down-requires
 move_down-requires c =
-    let l = c.loop-turn in
     let room = c.room-room in
-    let found = c.first_from-k in (
-      goes_down _ found.result found.ensures room.result room.ensures.value c.if-k-lt-PHRASES.true l.invariant.fits,
-      omega (arith, room.ensures.from_le_to),
-    )
-
-pub offset_bounds-moved-k-then-k-lt-PHRASES : goal.offset_bounds-moved-k-then-k-lt-PHRASES
-offset_bounds-moved-k-then-k-lt-PHRASES c = omega arith
-
-pub bounds-moved-k-then-k-lt-PHRASES : goal.bounds-moved-k-then-k-lt-PHRASES
-bounds-moved-k-then-k-lt-PHRASES c = omega arith
-
-pub overflow_add-to : goal.overflow_add-to
-overflow_add-to c =
-    let l = c.loop-turn in
-    let room = c.room-room in
-    let found = c.first_from-k in
-    omega (arith, room.ensures.from_le_to, goes_down _ found.result found.ensures room.result room.ensures.value c.if-k-lt-PHRASES.true l.invariant.fits)
-
-pub overflow_add-turn : goal.overflow_add-turn
-overflow_add-turn c = omega arith
-
-pub loop-turn-smaller : goal.loop-turn-smaller
-loop-turn-smaller c = omega arith
+    (goes_down _ c.in-Some.k c.in-Some.ensures.value room.result room.ensures.value c.loop-turn.invariant.fits, omega (arith, room.ensures.from_le_to))
 
 pub loop-turn-preserved : goal.loop-turn-preserved
 loop-turn-preserved c =
-    let found = c.first_from-k in
     let on = goes_on c.loop-turn.invariant c.loop-turn-test.true _ in
-    elim c.if-k-lt-PHRASES.branch [
-      | then-k-lt-PHRASES w ↦
-          on (moved_on _ found.result found.ensures w.room-room.result w.room-room.ensures.value w.if-k-lt-PHRASES.true _ w.moved-is (w.data-is ∙ w.move_down.ensures) w.from-is w.to-is)
-      | else-k-lt-PHRASES w ↦ on (stays _ found.result found.ensures _ w.if-k-lt-PHRASES.false w.moved-is w.data-is w.from-is w.to-is)
+    elim c.match-first_from.branch [
+      | in-Some w ↦ on (moved_on _ w.in-Some.k w.in-Some.ensures.value w.room-room.result w.room-room.ensures.value _ w.moved-is (w.data-is ∙ w.move_down.ensures) w.from-is w.to-is)
+      | in_default w ↦ on (stays _ _ (sym w.in_default.is ∙ c.first_from.ensures.value) w.moved-is w.data-is w.from-is w.to-is)
     ]
 
-pub shape_of-data : goal.shape_of-data
-shape_of-data c = c.loop-turn.invariant.size
+pub returns-clause-value : goal.returns-clause-value
+returns-clause-value c = ap (λ (g : Gathering). g.phrases) (ends c.loop-turn.invariant c.loop-turn-test.false)
 
-pub returns : goal.returns
-returns c =
-    let e = ends c.loop-turn.invariant c.loop-turn-test.false in
-    record { value = ap (λ (g : Gathering). g.phrases) e; data_after = ap (λ (g : Gathering). g.memory) e }
+pub returns-clause-data_after : goal.returns-clause-data_after
+returns-clause-data_after c = ap (λ (g : Gathering). g.memory) (ends c.loop-turn.invariant c.loop-turn-test.false)

@@ -14,6 +14,3 @@ pub record Going (all : List Phrase) (m : List ℕ) (turn : ℕ) (g : Gathering)
 abbrev pub invariant-loop-turn : goal.invariant-loop-turn
 invariant-loop-turn l =
     Going l.initial.moved l.initial.data l.turn (record { phrases = l.moved; memory = l.data; from = l.from; to = l.to })
-
-abbrev pub decreases-loop-turn : goal.decreases-loop-turn
-decreases-loop-turn l = 8 - l.turn

@@ -1,10 +1,11 @@
 -- `cool_glide` meets its contract: voices take their turns until one is plain, or doesn't glide. Assumes nothing.
-use Rattle.std.proofs.Common.{rules, arith, ◌≡◌, ◌≤◌, ◌<◌, length}
+use Rattle.std.proofs.Common.{rules, arith, ◌≡◌, ◌≤◌, ◌<◌, length, ap, ◌∙◌, ℕ}
 use borrow.Author.Tests.{not-false}
 use Rattle.walks.proofs.Lists.Loops.{get_d_any}
 use Rattle.voice.specs.Voices.{blank_voice}
 use Rattle.plain_voice.specs.Hots.{cold}
 use Rattle.channel.proofs.Slots.{none}
+use Rattle.lent_channel.specs.Turns.{glided_to}
 use Rattle.plain_channel.proofs.Gliding.{still_first, still_glides, cool_next}
 use Rattle.plain_channel.proofs.cool_glide.Goals as goal
 
@@ -30,4 +31,7 @@ loop-i-preserved c =
     (cool_next l.invariant below few voices hots _ (get_d_any l.c.voices l.i blank_voice none inside) c.quick-q.result (not-false c.quick-q.result.glides c.if-not-q.false) c.quick-q.ensures c.if-side-i.false)
 
 pub returns : goal.returns
-returns c = still_glides c.loop-i.invariant c.glided-2.result c.glided-2.ensures
+returns c =
+    let l = c.loop-i in
+    let end : c.args.n ≡ l.i = omega (arith, l.invariant.inside, c.loop-i-test.false) in
+    still_glides l.invariant c.glided-2.result (c.glided-2.ensures ∙ ap (λ (i : ℕ). glided_to i l.output) end)

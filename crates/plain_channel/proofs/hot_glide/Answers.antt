@@ -1,5 +1,5 @@
 -- `hot_glide` meets its contract: plain voices take their turns until one isn't plain, or doesn't glide. Assumes nothing.
-use Rattle.std.proofs.Common.{rules, arith, refl, get_or, ◌≡◌, ◌≤◌, ◌<◌, length}
+use Rattle.std.proofs.Common.{rules, arith, refl, get_or, ◌≡◌, ◌≤◌, ◌<◌, length, ap, ◌∙◌}
 use borrow.Author.Tests.{not-false}
 use mathlib.Core.Bool.{Bool}
 use Prim.Native.Nat.{ℕ}
@@ -10,6 +10,7 @@ use Rattle.voice.specs.Voices.{blank_voice}
 use Rattle.plain_voice.specs.declared.Hot.{Hot}
 use Rattle.plain_voice.specs.Hots.{cold}
 use Rattle.channel.proofs.Slots.{none}
+use Rattle.lent_channel.specs.Turns.{glided_to}
 use Rattle.plain_channel.proofs.Gliding.{still_first, still_glides, hot_stored, twice, four_times}
 use Rattle.plain_channel.proofs.hot_glide.Goals as goal
 
@@ -55,4 +56,7 @@ pub returns-then-not-q : goal.returns-then-not-q
 returns-then-not-q c = still_glides c.loop-i.invariant c.glided-then-not-q.result c.glided-then-not-q.ensures
 
 pub returns : goal.returns
-returns c = still_glides c.loop-i.invariant c.glided-2.result c.glided-2.ensures
+returns c =
+    let l = c.loop-i in
+    let end : c.args.n ≡ l.i = omega (arith, l.invariant.inside, c.loop-i-test.false) in
+    still_glides l.invariant c.glided-2.result (c.glided-2.ensures ∙ ap (λ (i : ℕ). glided_to i l.output) end)

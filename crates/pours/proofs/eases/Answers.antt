@@ -1,11 +1,6 @@
 -- `eases` meets its contract: its tests are those of `eases_told`. Assumes nothing.
-use mathlib.Core.Path.{sym}
-use mathlib.Core.Bool.{true≢false}
 use Rattle.pours.proofs.Promised.{eases_told}
 use Rattle.pours.proofs.eases.Goals as goal
-
-pub returns-then-n-gt-LAST_WHOLE : goal.returns-then-n-gt-LAST_WHOLE
-returns-then-n-gt-LAST_WHOLE c told = absurd (true≢false (sym told))
 
 pub returns : goal.returns
 returns c =

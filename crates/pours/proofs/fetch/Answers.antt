@@ -1,6 +1,5 @@
 -- `fetch` meets its contract. The invariant: so many are fetched, and the rest stands. The measure is how many are left. Assumes nothing.
 use mathlib.Core.Path.{refl, subst}
-use mathlib.Core.Bool.{true}
 use Prim.Native.Nat.{ℕ, ◌<◌, zero-le}
 use native.Mathlib.Omega.{arith}
 use lib.ListN.{length}
@@ -28,4 +27,4 @@ pub returns : goal.returns
 returns c =
     let a = c.args in
     let l = c.loop-k in
-    subst (λ (k : ℕ). Fetches a.«data».now a.played a.by k a.values.now l.values (record { index = l.index; played = l.sum; told = true })) (omega (arith, l.invariant.0, c.loop-k-test.false)) l.invariant.1
+    subst (λ (k : ℕ). Fetches a.«data».now a.played a.by k a.values.now l.values (record { index = l.index; played = l.sum })) (omega (arith, l.invariant.0, c.loop-k-test.false)) l.invariant.1

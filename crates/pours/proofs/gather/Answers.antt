@@ -1,14 +1,10 @@
 -- `gather` meets its contract. Assumes nothing.
-use mathlib.Core.Path.{sym, ◌∙◌}
-use mathlib.Core.Bool.{true≢false}
+use mathlib.Core.Path.{◌∙◌}
 use Rattle.pours.proofs.Promised.{gathered}
 use Rattle.pours.proofs.gather.Goals as goal
 
-pub returns-then-not-places : goal.returns-then-not-places
-returns-then-not-places c = (c.places.ensures.0, λ told. absurd (true≢false (sym told)))
-
 pub returns-then-not-lasts : goal.returns-then-not-lasts
-returns-then-not-lasts c = (c.fetch-f.ensures.size ∙ c.places.ensures.0, λ told. absurd (true≢false (sym told)))
+returns-then-not-lasts c = (c.fetch-f.ensures.size ∙ c.places.ensures.0, tt)
 
 pub returns : goal.returns
 returns c =
@@ -16,4 +12,4 @@ returns c =
     let f = c.fetch-f in
     let o = c.places in
     let l = c.lasts in
-    (f.ensures.size ∙ o.ensures.0, λ told. gathered a.«data».now a.t a.n a.v _ _ f.result c.requires.0.some (l.ensures c.if-not-lasts.false) (o.ensures.1 c.if-not-places.false) f.ensures)
+    (f.ensures.size ∙ o.ensures.0, gathered a.«data».now a.t a.n a.v _ _ f.result c.requires.0.some (l.ensures c.if-not-lasts.false) (o.ensures.1 c.if-not-places.false) f.ensures)

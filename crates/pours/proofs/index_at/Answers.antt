@@ -5,8 +5,8 @@ use native.Mathlib.Nat.{mod-lt}
 use native.Mathlib.Omega.{arith}
 use Rattle.pours.proofs.index_at.Goals as goal
 
-pub overflow_add-start : goal.overflow_add-start
-overflow_add-start c = record { fits = omega (arith, c.rest.ensures, mod-lt c.args.place c.requires.1) }
+pub overflow_add-h-2 : goal.overflow_add-h-2
+overflow_add-h-2 c = record { fits = omega (arith, c.rest-place.ensures, mod-lt (c.args.h.place + c.args.k) c.requires.1, c.requires) }
 
 pub returns : goal.returns
-returns c = let a = c.args in c.rest-2.ensures ∙ ap (λ (r : ℕ). (a.start + r) % a.total) c.rest.ensures
+returns c = let a = c.args in c.rest.ensures ∙ ap (λ (r : ℕ). (a.h.start + r) % a.b.total) c.rest-place.ensures

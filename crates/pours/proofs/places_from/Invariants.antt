@@ -1,5 +1,5 @@
 use mathlib.Core.Path.{◌≡◌}
-use Prim.Native.Nat.{◌-◌, ◌≤◌}
+use Prim.Native.Nat.{◌≤◌}
 use mathlib.Core.Bool.{true}
 use lib.ListN.{length}
 use Rattle.pours.specs.Steady.{CountedPlaces}
@@ -7,6 +7,3 @@ use Rattle.pours.proofs.places_from.Given as goal
 
 abbrev pub invariant-loop-k : goal.invariant-loop-k
 invariant-loop-k l = (l.k ≤ l.n) × (length l.values ≡ length l.initial.values) × (l.told ≡ true → CountedPlaces l.c l.from l.k l.values)
-
-abbrev pub decreases-loop-k : goal.decreases-loop-k
-decreases-loop-k l = l.n - l.k

@@ -5,6 +5,3 @@ use Rattle.pours.proofs.pour.Given as goal
 abbrev pub invariant-loop-k : goal.invariant-loop-k
 invariant-loop-k l =
     (l.k ≤ l.m) × Added (λ (j : ℕ). term_at l.data l.level (l.from + (j - l.at))) l.at (l.at + l.k) l.initial.sums l.sums
-
-abbrev pub decreases-loop-k : goal.decreases-loop-k
-decreases-loop-k l = l.m - l.k

@@ -6,7 +6,7 @@ use Rattle.pours.proofs.pour_all.Given as goal
 
 abbrev pub invariant-loop-f : goal.invariant-loop-f
 invariant-loop-f l =
-    (l.f ≤ l.n) × (l.at < l.round) × (l.at ≡ (l.place + l.f) % l.round) × Added (term l.start l.place l.round l.total l.data l.level) 0 l.f l.initial.sums l.sums
+    (l.f ≤ l.n) × (l.at < l.fn.b.length) × (l.at ≡ (l.fn.h.place + l.f) % l.fn.b.length) × Added (term l.fn.h.start l.fn.h.place l.fn.b.length l.fn.b.total l.data l.level) 0 l.f l.initial.sums l.sums
 
 abbrev pub decreases-loop-f : goal.decreases-loop-f
 decreases-loop-f l = l.n - l.f

@@ -6,6 +6,7 @@ use Prim.Native.Nat.{ℕ, zero, suc, ◌<◌}
 use native.Mathlib.Omega.{arith}
 use lib.Dec.{eqb, ltb}
 use lib.ListN.{length, get_or}
+use Rattle.std.specs.Prelude.{is_ok}
 use Rattle.walks.specs.Each.{Each}
 use Rattle.common_types.specs.declared.InitParams.{InitParams}
 use Rattle.channel.specs.declared.Head.{Head}
@@ -14,12 +15,12 @@ use Rattle.channel.specs.declared.Change.TheVariants as set
 use Rattle.channel.specs.Heads.{head_of, chosen_after, head_changed_of, closed_of}
 use Rattle.channel.specs.Channels.{channel_of, find_of, stop_playing_of, set_note_speed_of, head_changed_in, reset_of, gathered_in, played_of, taken_of}
 use Rattle.channel.proofs.Heads.{passthru_holds}
-use Rattle.sampler.specs.Refusals.{set_up_number, capacity_of}
+use Rattle.sampler.specs.Refusals.{set_up_judged, set_up_number, capacity_of}
 use Rattle.sampler.specs.Samplers.{sampler_of, set_up_of}
 use Rattle.fates.specs.Engine.{step_of}
 use Rattle.fates.specs.Events.{Event, idle, changes, gathers, sounds, act}
 use Rattle.fates.proofs.Clocks.{finished_holds, started_holds}
-use Rattle.promises.specs.Runs.{World, set_up, Call, change, sample, frame, read_wave, gather, asks, code, after, run, chan, done_to, event, Made, makes, FittingMade}
+use Rattle.promises.specs.Runs.{World, set_up, Call, change, sample, frame, read_wave, gather, asks, call_judged, after, run, chan, done_to, event, Made, makes, FittingMade}
 use Rattle.promises.specs.Phrases.{chosen, Eight}
 use Rattle.promises.proofs.Calls.{Standing, chan_after, kept, standing_after, standing_new}
 use Rattle.promises.proofs.Makes.{spreads}
@@ -67,26 +68,26 @@ unfolding number_after
 still e true k h = h
 still e false k h = refl
 
-by_event : (w : World) (c : Call) (j k : ℕ) → number_after (event w c j) k ≡ number_by (eqb (code w c) 0) c k
+by_event : (w : World) (c : Call) (j k : ℕ) → number_after (event w c j) k ≡ number_by (is_ok (call_judged w c)) c k
 unfolding event done_to number_after chosen_after
-by_event w (change (set.Start p position note velocity)) j k = still _ (eqb (code w (change (set.Start p position note velocity))) 0) k refl
-by_event w (change (set.Stop p note)) j k = still _ (eqb (code w (change (set.Stop p note))) 0) k refl
-by_event w (change (set.Speed note s)) j k = still _ (eqb (code w (change (set.Speed note s))) 0) k refl
-by_event w (change (set.Head d)) j k = go (eqb (code w (change (set.Head d))) 0)
+by_event w (change (set.Start p position note velocity)) j k = still _ (is_ok (call_judged w (change (set.Start p position note velocity)))) k refl
+by_event w (change (set.Stop p note)) j k = still _ (is_ok (call_judged w (change (set.Stop p note)))) k refl
+by_event w (change (set.Speed note s)) j k = still _ (is_ok (call_judged w (change (set.Speed note s)))) k refl
+by_event w (change (set.Head d)) j k = go (is_ok (call_judged w (change (set.Head d))))
   where
     go : (b : Bool) → number_after (cond b (done_to w (change (set.Head d)) j) idle) k ≡ cond b (chosen_after d k) k
     go true = refl
     go false = refl
-by_event w (change set.Reset) j k = go (eqb (code w (change set.Reset)) 0)
+by_event w (change set.Reset) j k = go (is_ok (call_judged w (change set.Reset)))
   where
     go : (b : Bool) → number_after (cond b (done_to w (change set.Reset) j) idle) k ≡ cond b 0 k
     go true = refl
     go false = refl
-by_event w (sample i x p) j k = still _ (eqb (code w (sample i x p)) 0) k (still _ (eqb i j) k refl)
-by_event w (frame xs p) j k = still _ (eqb (code w (frame xs p)) 0) k (still _ (ltb j (length xs)) k refl)
-by_event w (read_wave f) j k = still _ (eqb (code w (read_wave f)) 0) k refl
-by_event w gather j k = still _ (eqb (code w gather) 0) k refl
-by_event w (asks q) j k = still idle (eqb (code w (asks q)) 0) k refl
+by_event w (sample i x p) j k = still _ (is_ok (call_judged w (sample i x p))) k (still _ (eqb i j) k refl)
+by_event w (frame xs p) j k = still _ (is_ok (call_judged w (frame xs p))) k (still _ (ltb j (length xs)) k refl)
+by_event w (read_wave f) j k = still _ (is_ok (call_judged w (read_wave f))) k refl
+by_event w gather j k = still _ (is_ok (call_judged w gather)) k refl
+by_event w (asks q) j k = still idle (is_ok (call_judged w (asks q))) k refl
 
 abbrev Same : World → Type 0
 Same w = (i j : ℕ) → i < w.sampler.count → j < w.sampler.count → chosen w i ≡ chosen w j
@@ -95,9 +96,9 @@ same_after : (w : World) → Standing w → Same w → (c : Call) → Same (afte
 same_after w st same c i j h k =
     let a : i < w.sampler.count = omega (arith, (kept w c).count) in
     let b : j < w.sampler.count = omega (arith, (kept w c).count) in
-    next i a ∙ ap (number_by (eqb (code w c) 0) c) (same i j a b) ∙ sym (next j b)
+    next i a ∙ ap (number_by (is_ok (call_judged w c)) c) (same i j a b) ∙ sym (next j b)
   where
-    next : (i : ℕ) → i < w.sampler.count → chosen (after w c) i ≡ number_by (eqb (code w c) 0) c (chosen w i)
+    next : (i : ℕ) → i < w.sampler.count → chosen (after w c) i ≡ number_by (is_ok (call_judged w c)) c (chosen w i)
     next i a = ap (λ (d : Channel). d.head.chosen) (chan_after w st.two st.few i a c) ∙ number_after_lem (event w c i) (chan w i) ∙ by_event w c i (chosen w i)
 
 same_run : (w : World) → Standing w → Same w → (cs : List Call) → Same (run w cs)
@@ -108,7 +109,7 @@ same_run w st same (c ∷ cs) = same_run (after w c) (standing_after w c st) (sa
 -- ---- from set-up on, where it is number 0
 new_number : (count : ℕ) (p : InitParams) (m : List ℕ) (j : ℕ) → chosen (set_up count p m) j ≡ 0
 unfolding set_up set_up_of channel_of head_of
-new_number count p m j = go (eqb (set_up_number count (length m)) 0) j
+new_number count p m j = go (is_ok (set_up_judged count (length m))) j
   where
     go : (b : Bool) (j : ℕ) → (get_or (cond b (sampler_of count p (capacity_of count (length m))) (sampler_of 0 p 0)).channels j (channel_of (record { auto_passthru = false }))).head.chosen ≡ 0
     go true zero = refl

@@ -30,8 +30,8 @@ use Rattle.channel.specs.declared.Channel.{Channel}
 use Rattle.channel.specs.declared.Change.TheVariants as change
 use Rattle.channel.specs.declared.HeadChange.{HeadChange}
 use Rattle.channel.specs.declared.HeadChange.TheVariants.{StartRecording, StopRecording, Interpolate, Load, Choose, Delete}
-use Rattle.channel.specs.declared.Found.{Found}
-use Rattle.channel.specs.declared.Found.TheVariants.{At, Nothing}
+use Rattle.std.specs.Prelude.{Option, Some, None}
+use Rattle.std.specs.Option.{option_map_or}
 use Rattle.channel.specs.Heads.{with_recorded, recording_in, head_of, moment_on, moment_of, chosen_after, head_changed_of, closed_of}
 use Rattle.channel.specs.Tables.{place_of}
 use Rattle.channel.specs.Channels.{with_head, with_voices, live, phrases_in, phrase_at, moment_for, handled_of, pushed_of, find_of, finished_at_of, stop_playing_of, sped_of, set_note_speed_of, head_changed_in, reset_of, gathered_in, kept_of, played_of, taken_of, memory_of}
@@ -86,13 +86,13 @@ none_or : (n : ℕ) → (n ≡ 0) ⊎ (0 < n)
 none_or zero = inl refl
 none_or (suc n) = inr (omega arith)
 
-first_found : (place n : ℕ) → first_from place (first n) ≡ cond ((not (eqb n 0) && leb place 0) && true) 0 8
+first_found : (place n : ℕ) → first_from place (first n) ≡ cond ((not (eqb n 0) && leb place 0) && true) (Some 0) None
 unfolding first_below no_samples
 first_found place n = refl
 
 turn_alone : (n : ℕ) (m : List ℕ) (from to : ℕ) → (to ≡ 0) ⊎ (0 < from) → Alone n (gather_next (record { phrases = first n; memory = m; from = from; to = to }))
 unfolding gather_next gather_phrase
-turn_alone n m from to s = subst (λ (k : ℕ). Alone n (cond (ltb k 8) (gather_phrase k g) g)) (sym (first_found from n)) (go (not (eqb n 0) && leb from 0) refl)
+turn_alone n m from to s = subst (λ (found : Option ℕ). Alone n (option_map_or (λ k. gather_phrase k g) found g)) (sym (first_found from n)) (go (not (eqb n 0) && leb from 0) refl)
   where
     g : Gathering
     g = record { phrases = first n; memory = m; from = from; to = to }
@@ -111,7 +111,7 @@ turn_alone n m from to s = subst (λ (k : ℕ). Alone n (cond (ltb k 8) (gather_
         on (inl z) = inl (omega arith)
         on (inr l) = inr (omega arith)
 
-    go : (b : Bool) → (not (eqb n 0) && leb from 0) ≡ b → Alone n (cond (ltb (cond (b && true) 0 8) 8) (gather_phrase (cond (b && true) 0 8) g) g)
+    go : (b : Bool) → (not (eqb n 0) && leb from 0) ≡ b → Alone n (option_map_or (λ k. gather_phrase k g) (cond (b && true) (Some 0) None) g)
     go true e =
         let low = leb-true from 0 (both (not (eqb n 0)) (leb from 0) e).1 in
         moved (down (omega arith) s)
@@ -162,7 +162,7 @@ module _ (c : Channel) (o : OnePhrase c) where
       go true = o.voices
       go false = pushed v (fresh_phrase p position note velocity (moment_of c.head) ∙ o.number)
 
-  finished : (p : Params) (f : Found) → OnePhrase (finished_at_of p c f)
+  finished : (p : Params) (f : Option ℕ) → OnePhrase (finished_at_of p c f)
   unfolding finished_at_of handled_of
   finished p f = record {
     number = finished_holds (λ (h : Head). h.chosen) (λ on v h. refl) p c f ∙ o.number;
@@ -171,9 +171,9 @@ module _ (c : Channel) (o : OnePhrase c) where
     voices = voices f;
   }
     where
-      alone : (f : Found) → (finished_at_of p c f).several ≡ false
-      alone Nothing = o.alone
-      alone (At i) = either (λ (d : Channel). d.several) (ltb i 32) _ c false o.alone o.alone
+      alone : (f : Option ℕ) → (finished_at_of p c f).several ≡ false
+      alone None = o.alone
+      alone (Some i) = either (λ (d : Channel). d.several) (ltb i 32) _ c false o.alone o.alone
 
       -- the voice at a place past those that there are is none of them
       set_in : (i : ℕ) (b : Bool) → ltb i c.count ≡ b → Each Its (take c.count (set c.voices i (finish_of c.head.now p.decay_samples (get_or c.voices i blank_voice))))
@@ -187,9 +187,9 @@ module _ (c : Channel) (o : OnePhrase c) where
       within i true = set_in i (ltb i c.count) refl
       within i false = o.voices
 
-      voices : (f : Found) → Each Its (live (finished_at_of p c f))
-      voices Nothing = o.voices
-      voices (At i) = within i (ltb i 32)
+      voices : (f : Option ℕ) → Each Its (live (finished_at_of p c f))
+      voices None = o.voices
+      voices (Some i) = within i (ltb i 32)
 
   sped : (note : Note) (speed : Float) → OnePhrase (set_note_speed_of note speed c)
   unfolding set_note_speed_of becomes

@@ -1,13 +1,15 @@
 -- The names that the demands are written in, and where each stands. Definitions only. Assumes nothing.
-pub use Rattle.std.specs.Prelude.{◌≡◌, Bool, true, false, not, ◌⊎◌, ◌≢◌, ◌↔◌, List, [], ◌∷◌, ◌++◌, map, ℕ, suc, ◌+◌, ◌-◌, ◌*◌, ◌/◌, ◌%◌, ◌^◌, ◌≤◌, ◌<◌, min, max, T, eqb, ltb, length, take, drop, ℤ, Float}
+pub use Rattle.std.specs.Prelude.{◌≡◌, Bool, true, false, not, ◌⊎◌, ◌≢◌, ◌↔◌, List, [], ◌∷◌, ◌++◌, map, ℕ, suc, ◌+◌, ◌-◌, ◌*◌, ◌/◌, ◌%◌, ◌^◌, ◌≤◌, ◌<◌, min, max, T, eqb, ltb, length, take, drop, ℤ, Float, Result, Some, Ok}
 pub use Rattle.std.proofs.Math.Option.{some}
 pub use Rattle.std.specs.Float.{nan, fin, binary32}
 pub use Rattle.std.specs.Float.Ieee.{up, down, add, sub, mul, div, eq, le, is_nan, fits}
 pub use Rattle.std.specs.Float.Ieee.Exact.{HasValue}
 pub use Rattle.std.specs.Float.Ieee.Scale.{finite}
 pub use Rattle.std.specs.Float.Ieee.Positive.{positive}
-pub use Rattle.walks.specs.Walks.{any}
+pub use Rattle.std.specs.List.{list_any}
 pub use Rattle.walks.specs.Each.{Each}
+pub use Rattle.refusals.specs.declared.Refusal.{Refusal}
+pub use Rattle.refusals.specs.Refusals.{code_of}
 pub use Rattle.binary32.specs.Leaves.{as_float, as_whole, floor_of, min_of, max_of, bits_of, float_of, root_of, zero32}
 pub use Rattle.binary32.specs.Roots.{NearestRoot}
 pub use Rattle.common_types.specs.declared.InitParams.{InitParams}
@@ -22,8 +24,6 @@ pub use Rattle.recorder.specs.ErrorText.{error_text}
 pub use Rattle.volume.specs.Levels.{level_of}
 pub use Rattle.clip.specs.declared.Clip.{Clip}
 pub use Rattle.clip.specs.declared.Mode.{Mode}
-pub use Rattle.clip.specs.declared.Found.TheVariants.{At}
-pub use Rattle.clip.specs.declared.FoundAnswer.TheVariants.{Done}
 pub use Rattle.clip.specs.Positions.{elapsed_at, clip_offset_at, offset_at, position_at, index_at, next_at}
 pub use Rattle.clip.specs.Updates.{
   at_speed,
@@ -62,14 +62,12 @@ pub use Rattle.sampler.specs.Refusals.{
   bad_position,
   any_full,
   at_end,
-  row,
   set_up_number,
   frames_left,
   run_number,
 }
 pub use Rattle.questions.specs.declared.VoiceInfo.{VoiceInfo}
 pub use Rattle.questions.specs.declared.VoiceInfos.{VoiceInfos}
-pub use Rattle.questions.specs.declared.Counted.TheVariants as Counted
 pub use Rattle.questions.specs.Questions.{recorder_at, notes_of, voice_info_of}
 pub use Rattle.questions.specs.Waveforms.{cut_of, column_of, columns_of, smallest_of, largest_of, summary_with}
 pub use Rattle.fates.specs.Engine.{born_of, held_at, turns_in, step_of}
@@ -101,7 +99,9 @@ pub use Rattle.promises.specs.Runs.{
   sample,
   frame,
   asks,
+  call_judged,
   code,
+  row,
   after,
   run,
   chan,
@@ -141,6 +141,7 @@ pub use Rattle.promises.specs.Outcomes.{
   Outcome,
   Allows,
   Settled,
+  judged_in,
   number_in,
   left_by,
   world_left_along,

@@ -15,7 +15,7 @@ use borrow.Author.Rules.{rules}
 use Rattle.questions.proofs.active_count.Goals as goal
 
 pub loop-i-init : goal.loop-i-init
-loop-i-init c = (begins (λ (vs : List Voice). 0 + length (notes_of vs)) c.args.c.voices c.args.c.count _ 32 (search rules) c.places-n.ensures, search rules)
+loop-i-init c = (begins (λ (vs : List Voice). 0 + length (notes_of vs)) c.args.c.voices c.args.c.count _ 32 (search rules) c.min-n.ensures, search rules)
 
 pub overflow_add-k : goal.overflow_add-k
 overflow_add-k c = omega (arith, one_note _ _ c.note_count-k.ensures)

@@ -1,4 +1,4 @@
-use Prim.Native.Nat.{◌+◌, ◌-◌, ◌≤◌}
+use Prim.Native.Nat.{◌+◌, ◌≤◌}
 use mathlib.Core.List.{List}
 use lib.ListN.{length}
 use Rattle.walks.proofs.Lists.Loops.{Walk}
@@ -9,6 +9,3 @@ use Rattle.questions.proofs.active_count.Given as goal
 
 abbrev pub invariant-loop-i : goal.invariant-loop-i
 invariant-loop-i l = Walk (0 + length (notes_of (live l.c))) (λ (vs : List Voice). l.k + length (notes_of vs)) l.c.voices l.n l.i × (l.k ≤ l.i)
-
-abbrev pub decreases-loop-i : goal.decreases-loop-i
-decreases-loop-i l = l.n - l.i

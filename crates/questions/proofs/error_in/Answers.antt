@@ -1,25 +1,18 @@
--- `error_in` meets its contract: refused where the first rows give a number, and otherwise as the recorder answers. Assumes nothing.
+-- `error_in` meets its contract: the writer tells whether the text fits. Assumes nothing.
 use mathlib.Core.Path.{sym, ◌∙◌}
 use mathlib.Core.Bool.{not}
 use lib.Dec.{ltb}
 use Rattle.questions.specs.Sights.{head_in}
-use Rattle.questions.proofs.Answers.{text_refused, text_written, text_short}
+use Rattle.questions.proofs.Answers.{rows_open, text_answered, text_left}
 use Rattle.questions.proofs.error_in.Goals as goal
 
-pub returns-then-number-ne0 : goal.returns-then-number-ne0
-returns-then-number-ne0 c =
-    let at = c.args in
-    let is = text_refused (not at.t.good) (not (ltb at.channel at.t.count)) (head_in at.t at.channel).recorder at.text.now _ c.number_in-number.ensures c.if-number-ne0.true in
-    record { value = is.0; text_after = is.1 }
-
-pub returns-in-Written : goal.returns-in-Written
-returns-in-Written c =
-    let at = c.args in
-    let is = text_written (not at.t.good) (not (ltb at.channel at.t.count)) c.recorder_in.result _ _ c.number_in-number.ensures c.if-number-ne0.false _ (sym c.print_error_info-written.ensures.value ∙ c.in-Written.is) in
-    rw (← c.recorder_in.ensures) (record { value = is.0; text_after = c.print_error_info-written.ensures.text_after ∙ is.1 })
-
-pub returns-in-Short : goal.returns-in-Short
-returns-in-Short c =
-    let at = c.args in
-    let is = text_short (not at.t.good) (not (ltb at.channel at.t.count)) c.recorder_in.result _ _ c.number_in-number.ensures c.if-number-ne0.false (sym c.print_error_info-written.ensures.value ∙ c.in-Short.is) in
-    rw (← c.recorder_in.ensures) (record { value = is.0; text_after = c.print_error_info-written.ensures.text_after ∙ is.1 })
+pub returns : goal.returns
+returns c =
+    let t = c.args.t in
+    let text = c.args.text.now in
+    let passed = rows_open (not t.good) (not (ltb c.args.channel t.count)) (sym c.in_ok-rows.was ∙ c.rows.ensures) in
+    let r = (head_in t c.args.channel).recorder in
+    record {
+      value = simp (c.print_error_info.ensures.value, c.recorder_in.ensures, passed.0, passed.1) (text_answered r text);
+      text_after = simp (c.print_error_info.ensures.text_after, c.recorder_in.ensures, passed.0, passed.1) (text_left r text);
+    }

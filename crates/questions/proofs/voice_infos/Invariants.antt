@@ -1,4 +1,3 @@
-use Prim.Native.Nat.{◌-◌}
 use Rattle.walks.proofs.Lists.Loops.{Walk}
 use Rattle.channel.specs.Channels.{live}
 use Rattle.questions.specs.Questions.{figures_of}
@@ -8,7 +7,4 @@ use Rattle.questions.proofs.voice_infos.Given as goal
 abbrev pub invariant-loop-i : goal.invariant-loop-i
 invariant-loop-i l =
     let f = figures_of l.params l.first l.c in
-    Walk (filled f l.initial.answer 0 (live l.c)) (filled f l.answer l.i) l.c.voices l.n l.i
-
-abbrev pub decreases-loop-i : goal.decreases-loop-i
-decreases-loop-i l = l.n - l.i
+    Walk (filled f l.initial.infos 0 (live l.c)) (filled f l.infos l.i) l.c.voices l.n l.i

@@ -12,4 +12,4 @@ pub bounds-notes-k : goal.bounds-notes-k
 bounds-notes-k c = omega (arith, ap length (its_note c.args.v c.if-v.false))
 
 pub returns : goal.returns
-returns c = simp (its_note c.args.v c.if-v.false, c.into_u64.ensures)
+returns c = simp (its_note c.args.v c.if-v.false, c.from.ensures)

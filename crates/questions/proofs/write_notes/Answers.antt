@@ -12,7 +12,7 @@ use borrow.Author.Rules.{rules}
 use Rattle.questions.proofs.write_notes.Goals as goal
 
 pub loop-i-init : goal.loop-i-init
-loop-i-init c = (begins (laid c.args.notes.now 0) c.args.c.voices c.args.c.count _ 32 (search rules) c.places-n.ensures, refl)
+loop-i-init c = (begins (laid c.args.notes.now 0) c.args.c.voices c.args.c.count _ 32 (search rules) c.min-n.ensures, refl)
 
 pub write_note-requires : goal.write_note-requires
 write_note-requires c = omega (arith, turn-fits _ _ none c.loop-i.invariant.0 c.loop-i-test.true)

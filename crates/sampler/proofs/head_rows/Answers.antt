@@ -1,11 +1,11 @@
 -- `head_rows` meets its contract, by its cases. Assumes nothing.
+use mathlib.Core.Path.{sym, ◌∙◌}
+use Rattle.std.specs.Prelude.{Ok}
+use Rattle.refusals.specs.declared.Refusal.TheVariants.{Recording}
+use Rattle.refusals.proofs.Codes.{open_row}
 use Rattle.sampler.proofs.head_rows.Goals as goal
 
-pub returns-in-Load : goal.returns-in-Load
-returns-in-Load c = simp (c.first_of-in-Load.ensures, c.first_of.ensures, c.in-Load.is)
-
-pub returns-in-Choose : goal.returns-in-Choose
-returns-in-Choose c = simp (c.first_of-in-Choose-2.ensures, c.first_of-in-Choose.ensures, c.in-Choose.is)
-
-pub returns-in-Delete : goal.returns-in-Delete
-returns-in-Delete c = simp (c.first_of-in-Delete-2.ensures, c.first_of-in-Delete.ensures, c.in-Delete.is)
+pub returns-in_ok-when-in-Load : goal.returns-in_ok-when-in-Load
+returns-in_ok-when-in-Load c =
+    let free = open_row c.args.asked.against.blocked Recording (Ok tt) tt (sym c.in_ok-when-in-Load.was ∙ c.when.ensures) in
+    simp (c.when-in-Load.ensures, c.in-Load.is, free)

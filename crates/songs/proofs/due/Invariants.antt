@@ -4,6 +4,3 @@ use Rattle.songs.proofs.due.Given as goal
 
 abbrev pub invariant-loop-place : goal.invariant-loop-place
 invariant-loop-place l = l.place + dues_from l.list l.at l.place ≡ l.next + dues_from l.list l.at l.next
-
-abbrev pub decreases-loop-place : goal.decreases-loop-place
-decreases-loop-place l = l.entries - l.place

@@ -1,12 +1,12 @@
 -- `one_more` meets its contract. Assumes nothing.
-use Rattle.std.proofs.Common.{arith, rules, eq-eqb, ne_eqb}
+use Rattle.std.proofs.Common.{sym, ◌∙◌, arith, rules}
 use Rattle.songs.specs.Plays.{one_more_refused}
 use Rattle.songs.proofs.one_more.Goals as goal
 
-pub returns-then-number-eq0 : goal.returns-then-number-eq0
+pub returns-then-is_ok : goal.returns-then-is_ok
 unfolding one_more_refused
-returns-then-number-eq0 c = simp (eq-eqb _ _ c.if-number-eq0.true) (omega arith)
+returns-then-is_ok c = simp (sym c.is_ok.ensures.value ∙ c.if-is_ok.true) (omega arith)
 
-pub returns-else-number-eq0 : goal.returns-else-number-eq0
+pub returns-else-is_ok : goal.returns-else-is_ok
 unfolding one_more_refused
-returns-else-number-eq0 c = simp (ne_eqb _ _ c.if-number-eq0.false, c.wrapping_add_usize.ensures.value)
+returns-else-is_ok c = simp (sym c.is_ok.ensures.value ∙ c.if-is_ok.false, c.wrapping_add_usize.ensures.value)

@@ -27,17 +27,11 @@ offset_bounds-list-place-in-loop-place c = let inside = here c.loop-place.invari
 pub bounds-list-place-in-loop-place : goal.bounds-list-place-in-loop-place
 bounds-list-place-in-loop-place c = let inside = here c.loop-place.invariant c.loop-place-test.true in omega (arith, inside.0)
 
-pub overflow_add-place-in-loop-place : goal.overflow_add-place-in-loop-place
-overflow_add-place-in-loop-place c = omega arith
-
-pub loop-place-smaller : goal.loop-place-smaller
-loop-place-smaller c = omega arith
-
 pub loop-place-preserved : goal.loop-place-preserved
 loop-place-preserved c =
     let g = c.loop-place.invariant in
     let more = c.loop-place-test.true in
-    rw (c.one_more-refused.ensures, no_wrap g more (omega arith) c.changed-answer.result.number)
+    rw (c.one_more-refused.ensures, no_wrap g more (omega arith) c.changed-answer.result.done)
     (goes_on g more c.changed-answer.result (simp (c.changed-answer.ensures, c.change_of.ensures, c.new-cue.ensures)))
 
 pub returns : goal.returns

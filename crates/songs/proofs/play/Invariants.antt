@@ -4,6 +4,3 @@ use Rattle.songs.proofs.play.Given as goal
 
 abbrev pub invariant-loop-place : goal.invariant-loop-place
 invariant-loop-place l = Going l.initial.sampler l.list l.next l.at l.params l.end l.sampler l.place l.refused
-
-abbrev pub decreases-loop-place : goal.decreases-loop-place
-decreases-loop-place l = l.end - l.place

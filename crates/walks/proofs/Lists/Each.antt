@@ -9,7 +9,8 @@ use native.Mathlib.Numerals.{add-one}
 use native.Mathlib.Omega.{arith}
 use lib.ListN.{length, get_or, take, drop, set, length-map}
 use lib.Seq.{sets, sets-eq, take-append_seam, length-take-le}
-use Rattle.walks.specs.Walks.{any, every, without, behind}
+use Rattle.std.specs.List.{list_any, list_all}
+use Rattle.walks.specs.Walks.{without, behind}
 use Rattle.walks.specs.Each.{Each}
 use Rattle.walks.proofs.Lists.Every.{both}
 use Rattle.walks.proofs.Tests.{neither}
@@ -56,8 +57,8 @@ module _ {A : Type 0} (P : A → Type 0) where
       go (x ∷ xs) (suc n) h = (h.0, go xs n h.1)
 
   -- what holds of each by a test is what `every` tests
-  pub each_every : (p : A → Bool) (l : List A) → ((x : A) → P x → p x ≡ true) → Each P l → every p l ≡ true
-  unfolding Each every
+  pub each_every : (p : A → Bool) (l : List A) → ((x : A) → P x → p x ≡ true) → Each P l → list_all p l ≡ true
+  unfolding Each
   each_every p [] f h = refl
   each_every p (x ∷ xs) f h = rw (f x h.0) (each_every p xs f h.1)
 
@@ -74,19 +75,19 @@ module _ {A : Type 0} where
   each_weaker P Q g [] h = tt
   each_weaker P Q g (x ∷ xs) h = (g x h.0, each_weaker P Q g xs h.1)
 
-  pub every_each : (P Q : A → Type 0) (p : A → Bool) → ((x : A) → p x ≡ true → P x → Q x) → (l : List A) → every p l ≡ true → Each P l → Each Q l
-  unfolding Each every
+  pub every_each : (P Q : A → Type 0) (p : A → Bool) → ((x : A) → p x ≡ true → P x → Q x) → (l : List A) → list_all p l ≡ true → Each P l → Each Q l
+  unfolding Each
   every_each P Q p f [] h k = tt
   every_each P Q p f (x ∷ xs) h k =
-      let b = both (p x) (every p xs) h in
+      let b = both (p x) (list_all p xs) h in
       (f x b.0 k.0, every_each P Q p f xs b.1 k.1)
 
   -- of none that p holds of
-  pub any_each : (P Q : A → Type 0) (p : A → Bool) → ((x : A) → p x ≡ false → P x → Q x) → (l : List A) → any p l ≡ false → Each P l → Each Q l
-  unfolding Each any
+  pub any_each : (P Q : A → Type 0) (p : A → Bool) → ((x : A) → p x ≡ false → P x → Q x) → (l : List A) → list_any p l ≡ false → Each P l → Each Q l
+  unfolding Each
   any_each P Q p f [] h k = tt
   any_each P Q p f (x ∷ xs) h k =
-      let b = neither (p x) (any p xs) h in
+      let b = neither (p x) (list_any p xs) h in
       (f x b.0 k.0, any_each P Q p f xs b.1 k.1)
 
   -- the front of an array in which a list was stored is that list

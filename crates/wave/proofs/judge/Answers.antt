@@ -5,13 +5,13 @@ use Rattle.wave.proofs.Judgements.{places_below, judged_riff, judged_no_riff}
 use Rattle.wave.proofs.judge.Goals as goal
 
 pub judged_at-requires : goal.judged_at-requires
-judged_at-requires c = places_below _ _ _ (sym c.walk.ensures ∙ c.in-Is.is) (omega arith)
+judged_at-requires c = places_below _ _ _ (sym c.walk.ensures ∙ c.in-Some.is) (omega arith)
 
-pub returns-in-Is : goal.returns-in-Is
-returns-in-Is c = c.judged_at.ensures ∙ sym (judged_riff _ _ (sym c.good_riff.ensures ∙ c.if-good_riff.true) (sym c.walk.ensures ∙ c.in-Is.is))
+pub returns-in-Some : goal.returns-in-Some
+returns-in-Some c = c.judged_at.ensures ∙ sym (judged_riff _ _ (sym c.good_riff.ensures ∙ c.if-good_riff.true) (sym c.walk.ensures ∙ c.in-Some.is))
 
-pub returns-in-Refused : goal.returns-in-Refused
-returns-in-Refused c = sym (judged_riff _ _ (sym c.good_riff.ensures ∙ c.if-good_riff.true) (sym c.walk.ensures ∙ c.in-Refused.is))
+pub returns-in-None : goal.returns-in-None
+returns-in-None c = sym (judged_riff _ _ (sym c.good_riff.ensures ∙ c.if-good_riff.true) (sym c.walk.ensures ∙ c.in-None.is))
 
 pub returns-else-good_riff : goal.returns-else-good_riff
 returns-else-good_riff c = sym (judged_no_riff _ (sym c.good_riff.ensures ∙ c.if-good_riff.false))

@@ -1,19 +1,23 @@
 -- `judge` meets its contract: chunks that are met stand in the file. Assumes nothing.
-use mathlib.Core.Path.{sym, ◌∙◌}
+use Rattle.std.specs.Prelude.{None}
+use mathlib.Core.Path.{◌≡◌, sym, ◌∙◌}
 use Prim.Native.Nat.{◌^◌}
 use native.Mathlib.Omega.{arith}
+use borrow.Author.Rules.{rules}
 use Rattle.wave.proofs.Judgements.{places_below}
 use Rattle.wave_forms.proofs.Judgements.{judged_riff, judged_no_riff}
 use Rattle.wave_forms.proofs.judge.Goals as goal
 
 pub judged_at-requires : goal.judged_at-requires
-judged_at-requires c = let below = places_below _ _ (2 ^ 63) (sym c.walk.ensures ∙ c.in-Is.is) (omega arith) in (below.0, below.1)
+judged_at-requires c = let below = places_below _ _ (2 ^ 63) (sym c.walk.ensures ∙ c.in_ok-walk.was) (omega arith) in (below.0, below.1)
 
-pub returns-in-Is : goal.returns-in-Is
-returns-in-Is c = c.judged_at.ensures ∙ sym (judged_riff _ _ (sym c.good_riff.ensures ∙ c.if-good_riff.true) (sym c.walk.ensures ∙ c.in-Is.is))
+pub returns : goal.returns
+returns c = c.judged_at.ensures ∙ sym (judged_riff _ _ (sym c.good_riff.ensures ∙ c.if-not-good_riff.false) (sym c.walk.ensures ∙ c.in_ok-walk.was))
 
-pub returns-in-Refused : goal.returns-in-Refused
-returns-in-Refused c = sym (judged_riff _ _ (sym c.good_riff.ensures ∙ c.if-good_riff.true) (sym c.walk.ensures ∙ c.in-Refused.is))
+pub returns-in_err-walk : goal.returns-in_err-walk
+returns-in_err-walk c =
+    let e : c.from_residual.result ≡ None = search rules in
+    e ∙ sym (judged_riff _ _ (sym c.good_riff.ensures ∙ c.if-not-good_riff.false) (sym c.walk.ensures ∙ c.in_err-walk.was))
 
-pub returns-else-good_riff : goal.returns-else-good_riff
-returns-else-good_riff c = sym (judged_no_riff _ (sym c.good_riff.ensures ∙ c.if-good_riff.false))
+pub returns-then-not-good_riff : goal.returns-then-not-good_riff
+returns-then-not-good_riff c = sym (judged_no_riff _ (sym c.good_riff.ensures ∙ c.if-not-good_riff.true))

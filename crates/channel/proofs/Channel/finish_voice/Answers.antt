@@ -13,8 +13,8 @@ returns-in_default c = simp c.in_default.is
 
 pub returns-then-i-ge32 : goal.returns-then-i-ge32
 unfolding finished_at_of
-returns-then-i-ge32 c = simp (c.in-At.is, le-ltb _ _ c.if-i-ge32.true)
+returns-then-i-ge32 c = simp (c.in-Some.is, le-ltb _ _ c.if-i-ge32.true)
 
 pub returns : goal.returns
 unfolding finished_at_of
-returns c = simp (c.handle_passthru.ensures, c.finish.ensures, c.in-At.is, lt-ltb _ _ c.if-i-ge32.false, get_d_any c.args.self.voices c.in-At.i none blank_voice (omega (arith, c.well_formed.0.1.1.0.1.0.1)))
+returns c = simp (c.handle_passthru.ensures, c.finish.ensures, c.in-Some.is, lt-ltb _ _ c.if-i-ge32.false, get_d_any c.args.self.voices c.in-Some.i none blank_voice (omega (arith, c.well_formed.0.1.1.0.1.0.1)))

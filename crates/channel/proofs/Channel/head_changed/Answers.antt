@@ -21,11 +21,11 @@ use Rattle.channel.proofs.Channel.head_changed.Goals.{then-e, else-e}
 placed : (d : HeadChange) (h : Head) (several : Bool) (entry : Phrase) (e : Entry) → e ≡ head_entry d h several entry → e.place < 8
 placed d h several entry e is = subst (λ (e : Entry). e.place < 8) (sym is) (head_entry_below _ _ _ _)
 
-pub offset_bounds-self-place : goal.offset_bounds-self-place
-offset_bounds-self-place c = let below = placed _ _ _ _ _ c.head_entry-e.ensures in omega arith
+pub offset_bounds-self-e : goal.offset_bounds-self-e
+offset_bounds-self-e c = let below = placed _ _ _ _ _ c.head_entry-e.ensures in omega arith
 
-pub bounds-self-place : goal.bounds-self-place
-bounds-self-place c = placed _ _ _ _ _ c.head_entry-e.ensures
+pub bounds-self-e : goal.bounds-self-e
+bounds-self-e c = placed _ _ _ _ _ c.head_entry-e.ensures
 
 -- the channel with its table emptied or not
 abbrev emptied : Bool → Channel → Channel

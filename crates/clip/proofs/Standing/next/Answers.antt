@@ -12,4 +12,4 @@ returns c =
     c.f32_to_usize.ensures
     ∙ ap (to_unsigned 64) c.clip_to_data.ensures
     ∙ sym (floor_cast 64 _ (data_fits _ _))
-    ∙ simp (c.placed-place.ensures, c.ahead.ensures, c.travel.ensures)
+    ∙ simp (c.placed-place.ensures, c.ahead-further.ensures, c.travel.ensures)

@@ -1,9 +1,10 @@
 -- `header_fault` meets its contract. Assumes nothing.
 -- a version that there isn't
-use mathlib.Core.Path.{◌≡◌}
+use mathlib.Core.Path.{◌≡◌, sym, ◌∙◌}
 use mathlib.Core.Bool.{true, false, ◌||◌}
 use mathlib.Core.List.{List}
 use Prim.Native.Nat.{ℕ}
+use Rattle.std.specs.Prelude.{Some}
 use lib.Dec.{eqb}
 use lib.ListN.{length}
 use borrow.Author.Tests.{lt-leb, le-leb, ne_eqb}
@@ -13,23 +14,23 @@ use Rattle.listing.specs.Faults.{header_fault_of}
 use Rattle.listing.proofs.faults.header_fault.Goals as goal
 
 other_version : (b : List ℕ) (version : ℕ) → version ≡ byte_at b 0 → length b ≡ 3
-    → (eqb version 1 || eqb version 2) ≡ false → header.Version version ≡ header_fault_of b
+    → (eqb version 1 || eqb version 2) ≡ false → Some (header.Version version) ≡ header_fault_of b
 unfolding header_fault_of
 other_version b version v size other = simp (← v, size, other)
 
 -- a number of channels that there isn't
 channels : (b : List ℕ) (version count : ℕ) → version ≡ byte_at b 0 → count ≡ byte_at b 1 → length b ≡ 3
-    → (eqb version 1 || eqb version 2) ≡ true → (eqb count 1 || eqb count 2) ≡ false → header.Channels count ≡ header_fault_of b
+    → (eqb version 1 || eqb version 2) ≡ true → (eqb count 1 || eqb count 2) ≡ false → Some (header.Channels count) ≡ header_fault_of b
 unfolding header_fault_of
 channels b version count v n size known other = simp (← v, ← n, size, known, other)
 
-pub returns-then-bytes-eq0 : goal.returns-then-bytes-eq0
+pub returns-then-is_empty : goal.returns-then-is_empty
 unfolding header_fault_of
-returns-then-bytes-eq0 c = simp c.if-bytes-eq0.true
+returns-then-is_empty c = simp (sym c.is_empty.ensures ∙ c.if-is_empty.true)
 
 pub returns-then-bytes-ne3 : goal.returns-then-bytes-ne3
 unfolding header_fault_of
-returns-then-bytes-ne3 c = simp (ne_eqb _ _ c.if-bytes-eq0.false, ne_eqb _ _ c.if-bytes-ne3.true)
+returns-then-bytes-ne3 c = simp (sym c.is_empty.ensures ∙ c.if-is_empty.false, ne_eqb _ _ c.if-bytes-ne3.true)
 
 pub returns-then-not-version : goal.returns-then-not-version
 returns-then-not-version c = other_version c.args.bytes.now _ c.byte_at-version.ensures c.if-bytes-ne3.false c.if-not-version.true

@@ -4,4 +4,4 @@ use Rattle.listing.proofs.player.answered.Goals as goal
 
 pub returns : goal.returns
 unfolding answer_played
-returns c = simp c.answer_line.ensures
+returns c = simp (c.answer_line.ensures, c.code.ensures)

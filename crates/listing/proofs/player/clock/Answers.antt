@@ -4,7 +4,7 @@ use mathlib.Core.Bool.{false}
 use Rattle.channel.specs.Channels.{channel_of}
 use Rattle.sampler.proofs.Seats.{none}
 use native.Mathlib.Omega.{arith}
-use Rattle.walks.proofs.Lists.Loops.{long, get_d_any}
+use Rattle.walks.proofs.Lists.Loops.{get_d_any}
 use Rattle.channel.specs.declared.Channel.{Channel}
 use Rattle.listing.specs.Steps.{clock_of}
 use Rattle.listing.proofs.player.clock.Goals as goal

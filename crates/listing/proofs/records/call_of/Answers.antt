@@ -1,7 +1,6 @@
 -- `call_of` meets its contract: the table of calls. Assumes nothing.
 use mathlib.Core.Path.{sym}
-use mathlib.Core.Logic.{◌≢◌}
-use Prim.Native.Nat.{ℕ, ◌≤◌}
+use Prim.Native.Nat.{◌≤◌}
 use native.Mathlib.Omega.{arith}
 use Rattle.listing.specs.declared.records.Call.TheVariants.{Reset}
 use lib.ListN.{get_or-eq_default}

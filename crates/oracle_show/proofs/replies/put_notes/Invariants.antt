@@ -1,9 +1,5 @@
-use Prim.Native.Nat.{◌+◌, ◌*◌, ◌-◌, ◌≤◌}
-use mathlib.Core.Path.{◌≡◌}
+use Rattle.std.proofs.Common.{◌+◌, ◌*◌, ◌≤◌, length}
 use Rattle.oracle_show.proofs.replies.put_notes.Given as goal
 
-abbrev pub invariant-loop-i : goal.invariant-loop-i
-invariant-loop-i l = (l.i ≤ 34) × (l.place ≡ l.at + 17 * l.i)
-
-abbrev pub decreases-loop-i : goal.decreases-loop-i
-decreases-loop-i l = 34 - l.i
+abbrev pub invariant-loop-note : goal.invariant-loop-note
+invariant-loop-note l = length l.out ≤ length l.fn.out + 17 * l.note-index

@@ -9,6 +9,6 @@ pub returns : goal.returns
 unfolding room_of
 returns c =
     let a = c.args in
-    let from = c.smaller-from.result in
-    let is : ◌≡◌ {A = Room} (record { from = from; to = from + c.smaller.result }) (room_of a.self a.size) = simp (c.smaller.ensures, c.smaller-from.ensures) in
+    let from = c.min-from.result in
+    let is : ◌≡◌ {A = Room} (record { from = from; to = from + c.min.result }) (room_of a.self a.size) = simp (c.min.ensures, c.min-from.ensures) in
     record { value = is; from_le_to = subst (λ (r : Room). (r.from ≤ r.to) × (r.to ≤ a.size)) (sym is) (room_inside a.self a.size) }

@@ -1,5 +1,4 @@
 -- `Backing::new` meets its contract. Assumes nothing.
-use Rattle.std.proofs.Common.{rules}
 use Rattle.plain_sampler.specs.Backings.{cold_backing}
 use Rattle.plain_sampler.proofs.Backing.new.Goals as goal
 

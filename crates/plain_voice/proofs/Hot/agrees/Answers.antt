@@ -1,5 +1,5 @@
 -- `Hot::agrees` meets its contract: its tests are those of `agreed`. Assumes nothing.
-use Rattle.std.proofs.Common.{ℕ, ◌-◌, ◌^◌, ◌<◌, ◌≤◌, sym, true≢false, mul-le-mul, arith, rules}
+use Rattle.std.proofs.Common.{ℕ, ◌-◌, ◌^◌, ◌<◌, ◌≤◌, mul-le-mul, arith, rules}
 use lib.Ieee.{binary32, of_bits}
 use Rattle.binary32.proofs.Halves.{castable}
 use Rattle.plain_voice.proofs.Hots.{agreed}
@@ -7,12 +7,6 @@ use Rattle.plain_voice.proofs.Hot.agrees.Goals as goal
 
 few : (n : ℕ) → n < 2 ^ 32 → n ≤ 2 ^ 32 - 1
 few n h = omega (arith, h)
-
-pub returns-then-not-same : goal.returns-then-not-same
-returns-then-not-same c told is = absurd (true≢false (sym told))
-
-pub returns-then-self-gt-LONGEST : goal.returns-then-self-gt-LONGEST
-returns-then-self-gt-LONGEST c told is = absurd (true≢false (sym told))
 
 pub overflow_mul-reached : goal.overflow_mul-reached
 overflow_mul-reached c = record { fits = omega (arith, mul-le-mul {n₁ = c.args.self.lap} {m₁ = c.args.b.length} {n₂ = 2 ^ 32 - 1} {m₂ = 2 ^ 32 - 1} (few c.args.self.lap (search rules)) (few c.args.b.length (search rules))) }
@@ -27,4 +21,4 @@ pub returns : goal.returns
 unfolding of_bits
 returns c =
     let a = c.args in
-    agreed a.self a.c a.t a.b a.speed a.last c.same_mode.result c.elapsed_at-elapsed.result c.same_mode.ensures c.elapsed_at-elapsed.ensures c.if-not-same.false c.if-self-gt-LONGEST.false
+    agreed a.self a.c a.t a.b a.speed a.last c.eq.result c.elapsed_at-elapsed.result (search rules) c.elapsed_at-elapsed.ensures c.if-not-same.false c.if-self-gt-LONGEST.false

@@ -13,7 +13,7 @@ pub returns : goal.returns
 unfolding error_text bytes
 returns c = let r = c.args.self in
     let b = built_none c.new.ensures in
-    let b₁ = built_on b (bytes "skip: ") 6 c.with-skip.ensures (lit≤ tt) (lit≤ tt) in
-    let b₂ = built_on b₁ (decimal r.skipped_samples) 10 c.with_decimal-neg.ensures (decimal_short 9 r.skipped_samples (omega arith)) (lit≤ tt) in
-    let b₃ = built_on b₂ (bytes ", neg: 0, inc: ") 15 c.with-inc.ensures (lit≤ tt) (lit≤ tt) in
-    (built_on b₃ (decimal r.incorrect_state) 10 c.with_decimal.ensures (decimal_short 9 r.incorrect_state (omega arith)) (lit≤ tt)).is
+    let b₁ = built_on b (bytes "skip: ") 6 c.with.ensures (lit≤ tt) (lit≤ tt) in
+    let b₂ = built_on b₁ (decimal r.skipped_samples) 10 c.with_decimal.ensures (decimal_short 9 r.skipped_samples (omega arith)) (lit≤ tt) in
+    let b₃ = built_on b₂ (bytes ", neg: 0, inc: ") 15 c.with-2.ensures (lit≤ tt) (lit≤ tt) in
+    (built_on b₃ (decimal r.incorrect_state) 10 c.with_decimal-2.ensures (decimal_short 9 r.incorrect_state (omega arith)) (lit≤ tt)).is

@@ -7,7 +7,7 @@ use borrow.Author.Rules.{rules}
 use Rattle.sampler.proofs.Sampler.each.Goals as goal
 
 pub loop-j-init : goal.loop-j-init
-loop-j-init c = begins (each_from c.args.change c.args.self 0) c.args.self.channels c.args.self.count _ 2 (search rules) c.places-n.ensures
+loop-j-init c = begins (each_from c.args.change c.args.self 0) c.args.self.channels c.args.self.count _ 2 (search rules) c.min-n.ensures
 
 pub loop-j-preserved : goal.loop-j-preserved
 loop-j-preserved c = stores none c.loop-j.j _ c.loop-j.invariant (search rules) (le_refl _) (λ xs. each_on _ c.loop-j.self c.loop-j.j _ _ xs c.changed.ensures)

@@ -1,4 +1,3 @@
-use Prim.Native.Nat.{◌-◌}
 use Rattle.walks.proofs.Lists.Loops.{Walk}
 use Rattle.sampler.specs.Refusals.{present}
 use Rattle.sampler.proofs.Seats.{each_from}
@@ -6,6 +5,3 @@ use Rattle.sampler.proofs.Sampler.each.Given as goal
 
 abbrev pub invariant-loop-j : goal.invariant-loop-j
 invariant-loop-j l = Walk (each_from l.change l.initial.self 0 (present l.initial.self)) (each_from l.change l.self l.j) l.self.channels l.n l.j
-
-abbrev pub decreases-loop-j : goal.decreases-loop-j
-decreases-loop-j l = l.n - l.j

@@ -4,36 +4,36 @@ use borrow.Author.Rules.{rules}
 use native.Mathlib.Omega.{arith}
 use Rattle.sampler.proofs.Sampler.frames.Goals as goal
 
-pub loop-i-init : goal.loop-i-init
-loop-i-init c =
+pub loop-init : goal.loop-init
+loop-init c =
     running_starts c.args.params c.args.k c.args.self c.args.run.now c.args.memory.now c.requires
 
 pub overflow_add-b : goal.overflow_add-b
-overflow_add-b c = let room = running_room c.loop-i.invariant c.loop-i-test.true in search rules
+overflow_add-b c = let room = running_room c.loop.invariant c.loop-test.true in search rules
 
 pub offset_bounds-run-a : goal.offset_bounds-run-a
-offset_bounds-run-a c = let room = running_room c.loop-i.invariant c.loop-i-test.true in search rules
+offset_bounds-run-a c = let room = running_room c.loop.invariant c.loop-test.true in search rules
 
 pub slice_bounds-entries-count : goal.slice_bounds-entries-count
 slice_bounds-entries-count c = omega arith
 
 pub slice_bounds-entries-end : goal.slice_bounds-entries-end
-slice_bounds-entries-end c = let room = running_room c.loop-i.invariant c.loop-i-test.true in search rules
+slice_bounds-entries-end c = let room = running_room c.loop.invariant c.loop-test.true in search rules
 
 pub entries-entered-requires : goal.entries-entered-requires
-entries-entered-requires c = running_steps c.loop-i.invariant c.loop-i-test.true
+entries-entered-requires c = running_steps c.loop.invariant c.loop-test.true
 
-pub loop-i-preserved : goal.loop-i-preserved
-loop-i-preserved c =
+pub loop-preserved : goal.loop-preserved
+loop-preserved c =
     let r = c.entries-entered in
-    running_on c.loop-i.invariant c.loop-i-test.true
+    running_on c.loop.invariant c.loop-test.true
     r.result.sampler r.new.frame r.new.memory r.ensures.frames r.auto.frame r.auto.memory
 
 pub shape_of-run : goal.shape_of-run
-shape_of-run c = c.loop-i.invariant.entries
+shape_of-run c = c.loop.invariant.entries
 
 pub shape_of-memory : goal.shape_of-memory
-shape_of-memory c = c.loop-i.invariant.whole
+shape_of-memory c = c.loop.invariant.whole
 
 pub returns : goal.returns
-returns c = running_ends c.loop-i.invariant c.loop-i-test.false
+returns c = running_ends c.loop.invariant c.loop-test.false

@@ -1,4 +1,3 @@
-use Prim.Native.Nat.{◌-◌}
 use lib.ListN.{length}
 use Rattle.sampler.specs.Samplers.{gathered_all}
 use Rattle.sampler.proofs.Gathers.{Gathering}
@@ -6,6 +5,3 @@ use Rattle.sampler.proofs.Sampler.gathered.Given as goal
 
 abbrev pub invariant-loop-j : goal.invariant-loop-j
 invariant-loop-j l = Gathering (gathered_all l.initial.self l.initial.memory) l.capacity l.n (length l.initial.memory) l.self l.memory l.j
-
-abbrev pub decreases-loop-j : goal.decreases-loop-j
-decreases-loop-j l = l.n - l.j

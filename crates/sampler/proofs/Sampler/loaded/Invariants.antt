@@ -1,4 +1,3 @@
-use Prim.Native.Nat.{◌-◌}
 use Rattle.walks.proofs.Lists.Loops.{Walk}
 use Rattle.channel.specs.declared.Change.TheVariants.{Head}
 use Rattle.channel.specs.declared.HeadChange.TheVariants.{Load}
@@ -8,6 +7,3 @@ use Rattle.sampler.proofs.Sampler.loaded.Given as goal
 
 abbrev pub invariant-loop-j : goal.invariant-loop-j
 invariant-loop-j l = Walk (each_from (Head (Load l.samples)) l.initial.self 0 (present l.initial.self)) (each_from (Head (Load l.samples)) l.self l.j) l.self.channels l.n l.j
-
-abbrev pub decreases-loop-j : goal.decreases-loop-j
-decreases-loop-j l = l.n - l.j

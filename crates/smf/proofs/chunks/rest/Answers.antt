@@ -1,21 +1,23 @@
 -- `rest` meets its contract. Assumes nothing.
-use mathlib.Core.Path.{sym, ◌∙◌}
+use Rattle.std.proofs.Common.{rules}
+use mathlib.Core.Path.{sym, ap, ◌∙◌}
+use Rattle.std.specs.Prelude.{Ok}
 use native.Mathlib.Omega.{arith}
 use Rattle.smf.specs.Files.{rest_at}
 use Rattle.smf.proofs.Searches.{track_placed}
 use Rattle.smf.proofs.chunks.rest.Goals as goal
 
 pub overflow_add-result : goal.overflow_add-result
-overflow_add-result c = let h = track_placed _ _ _ (sym c.track_at.ensures ∙ c.in-Track.is) in omega arith
+overflow_add-result c = let h = track_placed _ _ _ (sym c.track_at.ensures ∙ c.in_ok-place.was ∙ ap Ok c.in-Some.is) in omega arith
 
-pub returns-in-Broken : goal.returns-in-Broken
+pub returns-in_err-place : goal.returns-in_err-place
 unfolding rest_at
-returns-in-Broken c = simp (sym c.track_at.ensures ∙ c.in-Broken.is)
+returns-in_err-place c = search rules
 
-pub returns-in-Track : goal.returns-in-Track
+pub returns-in-Some : goal.returns-in-Some
 unfolding rest_at
-returns-in-Track c = simp (sym c.track_at.ensures ∙ c.in-Track.is)
+returns-in-Some c = simp (sym c.track_at.ensures ∙ c.in_ok-place.was ∙ ap Ok c.in-Some.is)
 
-pub returns-in-Nothing : goal.returns-in-Nothing
+pub returns-in-None : goal.returns-in-None
 unfolding rest_at
-returns-in-Nothing c = simp (sym c.track_at.ensures ∙ c.in-Nothing.is)
+returns-in-None c = simp (sym c.track_at.ensures ∙ c.in_ok-place.was ∙ ap Ok c.in-None.is)

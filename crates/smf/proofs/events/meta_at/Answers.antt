@@ -1,4 +1,5 @@
 -- `meta_at` meets its contract. Assumes nothing.
+use Rattle.std.proofs.lemmas.Grind.{common_steps}
 use mathlib.Core.Path.{sym, ◌∙◌}
 use native.Mathlib.Omega.{arith}
 use borrow.Author.Tests.{lt-ltb, le-ltb}
@@ -15,12 +16,12 @@ unfolding meta_at
 returns-then-kind-ge128 c = simp (lt-ltb _ _ c.if-end-at.false, ← c.byte_at-kind.ensures, le-ltb _ _ c.if-kind-ge128.true)
 
 pub meta_body-requires : goal.meta_body-requires
-meta_body-requires c = let h = quantity_ends _ _ _ _ _ (sym c.quantity_at.ensures ∙ c.in-Is.is) in omega (arith, h)
+meta_body-requires c = let h = quantity_ends _ _ _ _ _ (sym c.quantity_at.ensures ∙ c.in_ok-value.was) in omega (arith, h)
 
-pub returns-in-Broken : goal.returns-in-Broken
+pub returns-in_err-value : goal.returns-in_err-value
 unfolding meta_at
-returns-in-Broken c = simp (lt-ltb _ _ c.if-end-at.false, ← c.byte_at-kind.ensures, lt-ltb _ _ c.if-kind-ge128.false, sym c.quantity_at.ensures ∙ c.in-Broken.is)
+returns-in_err-value c = grind (arith, common_steps)
 
-pub returns-in-Is : goal.returns-in-Is
+pub returns : goal.returns
 unfolding meta_at
-returns-in-Is c = simp (lt-ltb _ _ c.if-end-at.false, ← c.byte_at-kind.ensures, lt-ltb _ _ c.if-kind-ge128.false, sym c.quantity_at.ensures ∙ c.in-Is.is, c.meta_body.ensures)
+returns c = simp (lt-ltb _ _ c.if-end-at.false, ← c.byte_at-kind.ensures, lt-ltb _ _ c.if-kind-ge128.false, sym c.quantity_at.ensures ∙ c.in_ok-value.was, c.meta_body.ensures)

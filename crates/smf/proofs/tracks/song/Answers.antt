@@ -1,4 +1,5 @@
 -- `song` meets its contract. Assumes nothing.
+use Rattle.std.proofs.Common.{rules}
 use mathlib.Core.Path.{refl, sym, ap, ◌∙◌}
 use native.Mathlib.Omega.{arith}
 use Rattle.smf.specs.Cues.{count_closed, numbers_of, song_in, song_of}
@@ -6,12 +7,12 @@ use Rattle.smf.proofs.Searches.{header_divided}
 use Rattle.smf.proofs.tracks.song.Goals as goal
 
 pub tracks-requires : goal.tracks-requires
-tracks-requires c = let h = header_divided _ _ _ (sym c.header.ensures ∙ c.in-Is.is) in (omega arith, h.0, h.1)
+tracks-requires c = let h = header_divided _ _ _ (sym c.header.ensures ∙ c.in_ok-division.was) in (omega arith, h.0, h.1)
 
-pub returns-in-Broken : goal.returns-in-Broken
+pub returns-in_err-division : goal.returns-in_err-division
 unfolding count_closed numbers_of song_of
-returns-in-Broken c = let e = ap (song_in c.args.rate c.args.file.now) (sym c.header.ensures ∙ c.in-Broken.is) in rw e (record { value = refl; written_list = λ _. refl })
+returns-in_err-division c = let e = ap (song_in c.args.rate c.args.file.now) (sym c.header.ensures ∙ c.in_err-division.was) in rw e (record { value = search rules; written_list = λ _. refl })
 
-pub returns-in-Is : goal.returns-in-Is
+pub returns : goal.returns
 unfolding song_of
-returns-in-Is c = let e = ap (song_in c.args.rate c.args.file.now) (sym c.header.ensures ∙ c.in-Is.is) in rw e c.tracks.ensures
+returns c = let e = ap (song_in c.args.rate c.args.file.now) (sym c.header.ensures ∙ c.in_ok-division.was) in rw e c.tracks.ensures

@@ -69,14 +69,14 @@ put_end-requires c = let a = c.args in
     let kept = l.invariant.kept in
     let x_small = l.invariant.left.small in
     let y_small = l.invariant.right.small in
-    (omega (arith, c.larger.ensures), omega arith)
+    (omega (arith, c.max.ensures), omega arith)
 
 pub returns-then-y : goal.returns-then-y
 returns-then-y c = let a = c.args in
     let l = c.loop-x in
     let within = l.invariant.within in
     let kept = l.invariant.kept in
-    over_ends a.a.now a.a_end a.file.now a.at a.end a.out.now l.out l.x l.y l.w l.invariant (sym c.goes_first.ensures ∙ c.if-goes_first.false) c.if-y.true (omega arith) _ c.larger.ensures _ _ c.put_end.ensures.value c.put_end.ensures.out_after
+    over_ends a.a.now a.a_end a.file.now a.at a.end a.out.now l.out l.x l.y l.w l.invariant (sym c.goes_first.ensures ∙ c.if-goes_first.false) c.if-y.true (omega arith) _ c.max.ensures _ _ c.put_end.ensures.value c.put_end.ensures.out_after
 
 pub overflow_sub-room-else-y : goal.overflow_sub-room-else-y
 overflow_sub-room-else-y c = let g = c.loop-x.invariant in

@@ -1,6 +1,6 @@
 -- The bytes up to here are copied.
 use mathlib.Core.Path.{◌≡◌}
-use Prim.Native.Nat.{◌-◌, ◌≤◌}
+use Prim.Native.Nat.{◌≤◌}
 use lib.Seq.{sets}
 use Rattle.octets.specs.Octets.{bytes_at}
 use Rattle.song_merge.proofs.writing.copy.Given as goal
@@ -10,6 +10,3 @@ invariant-loop-i l = record {
   within : l.i ≤ l.size;
   is_copied : l.out ≡ sets l.initial.out l.at (bytes_at l.i l.list l.from);
 }
-
-abbrev pub decreases-loop-i : goal.decreases-loop-i
-decreases-loop-i l = l.size - l.i

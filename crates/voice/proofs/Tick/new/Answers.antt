@@ -4,4 +4,4 @@ use Rattle.voice.proofs.Measured.{tick_measured}
 use Rattle.voice.proofs.Tick.new.Goals as goal
 
 pub returns : goal.returns
-returns c = c.measured.ensures ∙ tick_measured c.args.params _ c.measure-m.ensures c.args.at
+returns c = c.measured.ensures ∙ tick_measured c.args.params _ c.measure.ensures c.args.at

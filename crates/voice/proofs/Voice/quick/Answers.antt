@@ -12,8 +12,8 @@ returns-then-self-t c glides = absurd (true≢false (sym glides))
 pub returns-then-not-keeps : goal.returns-then-not-keeps
 returns-then-not-keeps c glides = absurd (true≢false (sym glides))
 
-pub returns-then-index-ge-NONE : goal.returns-then-index-ge-NONE
-returns-then-index-ge-NONE c glides = absurd (true≢false (sym glides))
+pub returns-then-near-ge-NONE : goal.returns-then-near-ge-NONE
+returns-then-near-ge-NONE c glides = absurd (true≢false (sym glides))
 
 pub returns-then-next-ge-NONE : goal.returns-then-next-ge-NONE
 returns-then-next-ge-NONE c glides = absurd (true≢false (sym glides))
@@ -25,6 +25,6 @@ returns c =
     let keeps = c.keeps in
     let beside = c.quick_beside-next in
     let valued = c.near_valued in
-    answered a.t a.«data».now a.self found.result beside.result valued.result found.ensures beside.ensures valued.ensures c.if-index-ge-NONE.false c.if-next-ge-NONE.false
+    answered a.t a.«data».now a.self found.result beside.result valued.result found.ensures beside.ensures valued.ensures c.if-near-ge-NONE.false c.if-next-ge-NONE.false
     c.quick_at.result keeps.result (c.quick_at.ensures ∙ ap (λ (level : Float). quick_at a.t a.self found.result.index (mul binary32 valued.result level)) c.level-level.ensures) keeps.ensures c.if-self-t.false
     (c.if-not-keeps.false)

@@ -11,12 +11,6 @@ loop-i-init c = record { within = omega arith; is_written = written_none _ _ _ }
 pub put_frame-requires : goal.put_frame-requires
 put_frame-requires c = let kept = ap length c.loop-i.invariant.is_written ∙ length_written _ _ _ _ in record { memory_value = c.requires.memory_value; samples_in_bounds = omega arith; i_lt_samples = c.loop-i-test.true }
 
-pub overflow_add-i : goal.overflow_add-i
-overflow_add-i c = omega arith
-
-pub loop-i-smaller : goal.loop-i-smaller
-loop-i-smaller c = omega arith
-
 pub loop-i-preserved : goal.loop-i-preserved
 loop-i-preserved c = record { within = omega arith; is_written = c.put_frame.ensures ∙ written_next _ _ _ _ _ c.loop-i.invariant.is_written }
 

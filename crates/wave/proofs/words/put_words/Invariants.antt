@@ -1,6 +1,6 @@
 -- The frames up to here are written (`Copies: written_to`).
 use mathlib.Core.Path.{◌≡◌}
-use Prim.Native.Nat.{◌-◌, ◌≤◌}
+use Prim.Native.Nat.{◌≤◌}
 use Rattle.wave.proofs.Copies.{written_to}
 use Rattle.wave.proofs.words.put_words.Given as goal
 
@@ -9,6 +9,3 @@ invariant-loop-i l = record {
   within : l.i ≤ l.l.samples;
   is_written : l.out ≡ written_to l.l l.memory l.initial.out l.i;
 }
-
-abbrev pub decreases-loop-i : goal.decreases-loop-i
-decreases-loop-i l = l.l.samples - l.i

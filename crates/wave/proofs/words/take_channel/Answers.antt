@@ -54,12 +54,6 @@ offset_bounds-memory-to c = let kept = stored_length _ _ _ _ _ c.loop-i.invarian
 pub bounds-memory-to : goal.bounds-memory-to
 bounds-memory-to c = let kept = stored_length _ _ _ _ _ c.loop-i.invariant.is_stored in omega arith
 
-pub overflow_add-i : goal.overflow_add-i
-overflow_add-i c = omega arith
-
-pub loop-i-smaller : goal.loop-i-smaller
-loop-i-smaller c = omega arith
-
 pub loop-i-preserved : goal.loop-i-preserved
 loop-i-preserved c =
     let a = c.args in

@@ -1,6 +1,6 @@
 -- The samples up to here are stored.
 use mathlib.Core.Path.{◌≡◌}
-use Prim.Native.Nat.{ℕ, ◌+◌, ◌-◌, ◌*◌, ◌≤◌}
+use Prim.Native.Nat.{ℕ, ◌+◌, ◌*◌, ◌≤◌}
 use lib.ListN.{get_or}
 use lib.Seq.{sets}
 use Rattle.wave.specs.Fields.{listed}
@@ -12,6 +12,3 @@ invariant-loop-i l = record {
   within : l.i ≤ l.w.samples;
   is_stored : l.memory ≡ sets l.initial.memory l.start (listed (λ (n : ℕ). get_or (words_in l.file l.w) (n * l.w.channels + l.j) 0) 0 l.i);
 }
-
-abbrev pub decreases-loop-i : goal.decreases-loop-i
-decreases-loop-i l = l.w.samples - l.i

@@ -16,6 +16,3 @@ invariant-loop-k l = record {
   within : l.k ≤ l.s.count;
   is_written : l.out ≡ written l.initial.out (word_at l.file l.s) l.k;
 }
-
-abbrev pub decreases-loop-k : goal.decreases-loop-k
-decreases-loop-k l = l.s.count - l.k

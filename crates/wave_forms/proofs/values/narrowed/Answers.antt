@@ -24,10 +24,10 @@ pub overflow_shl-m : goal.overflow_shl-m
 overflow_shl-m c = let z = zeros_of c.args.m (omega arith) (search rules) in omega arith
 
 pub overflow_add-pattern : goal.overflow_add-pattern
-overflow_add-pattern c = let few = digits_few c.args.m c.args.x _ _ c.if-m-eq0.false (search rules) c.less-exponent.ensures c.shifted-digits.ensures in omega arith
+overflow_add-pattern c = let few = digits_few c.args.m c.args.x _ _ c.if-m-eq0.false (search rules) c.saturating_sub-exponent.ensures c.shifted-digits.ensures in omega arith
 
 pub returns-then-pattern-lt2139095040 : goal.returns-then-pattern-lt2139095040
-returns-then-pattern-lt2139095040 c = record { value = narrowed_below c.args.m c.args.x _ _ c.if-m-eq0.false (search rules) c.less-exponent.ensures c.shifted-digits.ensures c.if-pattern-lt2139095040.true; upper_bound = omega arith }
+returns-then-pattern-lt2139095040 c = record { value = narrowed_below c.args.m c.args.x _ _ c.if-m-eq0.false (search rules) c.saturating_sub-exponent.ensures c.shifted-digits.ensures c.if-pattern-lt2139095040.true; upper_bound = omega arith }
 
 pub returns-else-pattern-lt2139095040 : goal.returns-else-pattern-lt2139095040
-returns-else-pattern-lt2139095040 c = record { value = narrowed_over c.args.m c.args.x _ _ c.if-m-eq0.false (search rules) c.less-exponent.ensures c.shifted-digits.ensures c.if-pattern-lt2139095040.false; upper_bound = omega arith }
+returns-else-pattern-lt2139095040 c = record { value = narrowed_over c.args.m c.args.x _ _ c.if-m-eq0.false (search rules) c.saturating_sub-exponent.ensures c.shifted-digits.ensures c.if-pattern-lt2139095040.false; upper_bound = omega arith }

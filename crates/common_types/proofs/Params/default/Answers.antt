@@ -1,7 +1,0 @@
--- `Params::default` meets its contract: its literals are the floats that the definition names. Assumes nothing.
-use lib.Ieee.{of_bits, of_int}
-use Rattle.common_types.proofs.Params.default.Goals as goal
-
-pub returns : goal.returns
-unfolding of_bits of_int
-returns c = rw c.default.ensures

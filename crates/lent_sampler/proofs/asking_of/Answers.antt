@@ -1,6 +1,0 @@
--- `asking_of` meets its contract. Assumes nothing.
-use Rattle.std.proofs.Common.{rules}
-use Rattle.lent_sampler.proofs.asking_of.Goals as goal
-
-pub returns : goal.returns
-returns c = simp c.asks.ensures

@@ -1,9 +1,0 @@
--- `oracle_acts::waves::write` is safe: the parts of memory and file that are lent have the lengths asked for. Assumes nothing.
-use Rattle.std.proofs.Common.{sym, length-take-le, rules}
-use Rattle.oracle_acts.proofs.waves.write.Goals as goal
-
-pub slice_bounds-write_wave-end : goal.slice_bounds-write_wave-end
-slice_bounds-write_wave-end c = sym (length-take-le _ _ (search rules))
-
-pub slice_bounds-write_wave-end-3 : goal.slice_bounds-write_wave-end-3
-slice_bounds-write_wave-end-3 c = sym (length-take-le _ _ (search rules))

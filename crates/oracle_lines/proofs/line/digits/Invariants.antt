@@ -1,8 +1,0 @@
-use Prim.Native.Nat.{◌≤◌}
-use Rattle.oracle_lines.proofs.line.digits.Given as goal
-
-abbrev pub invariant-loop-i : goal.invariant-loop-i
-invariant-loop-i l = l.i ≤ l.count
-
-abbrev pub decreases-loop-i : goal.decreases-loop-i
-decreases-loop-i l = l.i
