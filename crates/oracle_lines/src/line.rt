@@ -33,6 +33,14 @@ impl Text {
         }
     }
 
+    // How many bytes wait.
+    pub fn len(&self) -> usize
+        ensures value { result ≡ length self.now }
+        ensures at_most { result ≤ 65536 }
+    {
+        self.length
+    }
+
     // As many of the bytes as there is room for.
     fn add(&mut self, bytes: &[u8])
         ensures { length self.new ≡ min (length self.old + length bytes.now) 65536 }

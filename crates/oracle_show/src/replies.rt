@@ -127,7 +127,7 @@ pub fn put_listed(out: &mut Text, kind: u8, a: Result<usize, Refusal>)
 }
 
 fn error_text(s: Sampler, channel: usize, room: usize, out: &mut Text)
-    ensures { length out.new ≤ length out.old + 201 }
+    ensures { length out.new ≡ min (length out.old + 201) 65536 }
 {
     let mut text = [b'.'; 64];
     let n = room.min(text.len());
@@ -138,15 +138,16 @@ fn error_text(s: Sampler, channel: usize, room: usize, out: &mut Text)
 }
 
 pub fn put_bytes(out: &mut Text, bytes: &[u8])
-    ensures { length out.new ≤ length out.old + 3 * length bytes.now }
+    ensures { length out.new ≡ min (length out.old + 3 * length bytes.now) 65536 }
 {
+    prove!(out.len() <= 65536);
     for byte in bytes {
         out.put_u8(*byte);
     }
 }
 
 fn active_notes(s: Sampler, channel: usize, room: usize, out: &mut Text)
-    ensures { length out.new ≤ length out.old + 587 }
+    ensures { length out.new ≡ min (length out.old + 587) 65536 }
 {
     let mut notes = [u64::MAX; 34];
     let n = room.min(notes.len());
@@ -157,8 +158,9 @@ fn active_notes(s: Sampler, channel: usize, room: usize, out: &mut Text)
 }
 
 pub fn put_notes(out: &mut Text, notes: &[u64])
-    ensures { length out.new ≤ length out.old + 17 * length notes.now }
+    ensures { length out.new ≡ min (length out.old + 17 * length notes.now) 65536 }
 {
+    prove!(out.len() <= 65536);
     for note in notes {
         out.put_u64(*note);
     }
