@@ -897,12 +897,22 @@ impl Channel {
         self.push(v).handle_passthru(params)
     }
 
-    // The place of the first unfinished voice with that note.
-    #[tactic(auto, unfolding(crate::specs::Channels::find_of))]
+    // The place of the first unfinished voice with that note. (Document 01 asks for this form.)
+    #[tactic(auto, unfolding(crate::specs::Channels::find_of), using(std::proofs::lemmas::List::at_drop_more, std::proofs::lemmas::List::at_drop_all))]
     fn find(self, note: Note) -> Option<usize>
         ensures { result ≡ find_of note self }
     {
-        self.live().iter().position(|v| wanted(*v, note))
+        let voices = self.live();
+        let mut i = 0;
+        loop {
+            if voices.len() <= i {
+                break None;
+            }
+            if wanted(voices[i], note) {
+                break Some(i);
+            }
+            i += 1;
+        }
     }
 
     fn finish_voice(mut self, params: Params, found: Option<usize>) -> Self

@@ -1,5 +1,9 @@
 // What the records do to the sampler.
-ghost use Rattle.std.specs.Prelude.{◌≡◌, ◌≤◌};
+ghost use Rattle.std.specs.Prelude.{◌≡◌, ◌≤◌, [], ◌∷◌, replicate, false, pos};
+ghost use Rattle.std.specs.Float.{fin};
+ghost use Rattle.octets.specs.Octets.{byte_at};
+ghost use Rattle.oracle_lines.specs.Fields.{f32_of};
+ghost use Rattle.oracle_acts.specs.Entries.{entries_at_of};
 
 use crate::run::Run;
 use common_types::{InitParams, Note, Params};
@@ -18,7 +22,11 @@ pub struct Heard {
 
 impl Heard {
     // Of no frame.
-    pub fn nothing() -> Self {
+    pub fn nothing() -> Self
+        ensures entries { result.entries ≡ replicate 3 (fin false 0 (pos 0)) }
+        ensures number { result.number ≡ 0 }
+        ensures moved { result.moved ≡ 0 }
+    {
         Self {
             entries: [0.0, 0.0, 0.0],
             number: 0,
@@ -28,18 +36,25 @@ impl Heard {
 }
 
 // A note at 1, its channel at 2.
-pub fn note_of(fields: &Record) -> Note {
+pub fn note_of(fields: &Record) -> Note
+    ensures note { result.note ≡ byte_at fields.now 1 }
+    ensures channel { result.channel ≡ byte_at fields.now 2 }
+{
     Note::new(fields[1], fields[2])
 }
 
 // Kind 9: the entries at 4, 8 and 12.
-pub fn entries_of(fields: &Record) -> [f32; 3] {
+pub fn entries_of(fields: &Record) -> [f32; 3]
+    ensures { result ≡ f32_of fields.now 4 ∷ f32_of fields.now 8 ∷ f32_of fields.now 12 ∷ [] }
+{
     [f32_at(fields, 4), f32_at(fields, 8), f32_at(fields, 12)]
 }
 
 // Kind 19: the entries of frame i are x, -x and x, where x is the float at 4, and in each further frame more by the float
 // at 8.
-pub fn entries_at(fields: &Record, i: u32) -> [f32; 3] {
+pub fn entries_at(fields: &Record, i: u32) -> [f32; 3]
+    ensures { result ≡ entries_at_of fields.now i }
+{
     let x = f32_at(fields, 4) + binary32::u32_to_f32(i) * f32_at(fields, 8);
     [x, -x, x]
 }

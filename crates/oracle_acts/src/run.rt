@@ -1,5 +1,5 @@
 // What a run holds between two records, and the text of what a record answers and leaves.
-ghost use Rattle.std.specs.Prelude.{◌≡◌, ◌+◌, ◌*◌, ◌≤◌, length, min};
+ghost use Rattle.std.specs.Prelude.{◌≡◌, ◌+◌, ◌*◌, ◌≤◌, [], length, min};
 
 use crate::calls::Heard;
 use crate::waves::mixed;
@@ -13,7 +13,7 @@ use sampler::{Ran, Sampler};
 
 // The sampler, and the parameters of its calls; the memory and the file that are lent to them; and the lines that wait
 // to be written.
-#[derive(Drop)]
+#[derive(Clone, Copy)]
 pub struct Run {
     pub sampler: Sampler,
     pub params: Params,
@@ -24,7 +24,9 @@ pub struct Run {
 
 impl Run {
     // No sampler is set up yet, and every call is refused.
-    pub fn new() -> Self {
+    pub fn new() -> Self
+        ensures { result.out ≡ [] }
+    {
         Self {
             sampler: Sampler::new(0, InitParams::default(), &[]).sampler,
             params: Params::default(),

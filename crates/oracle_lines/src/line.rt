@@ -5,8 +5,9 @@ ghost use Rattle.std.specs.Prelude.{◌≡◌, ◌+◌, ◌-◌, ◌<◌, ◌≤
 use std::marker::Model;
 
 // The lines that wait to be written: as many of the bytes as the length says. What is past the room is cut; no program
-// comes there, as each writes what waits before the rest is too short for a record's answer.
-#[derive(Drop)]
+// comes there, as each writes what waits before the rest is too short for a record's answer. The bytes past the length
+// are 0: so what a clause sees of a text gives its fields back, which `Copy` asks for.
+#[derive(Clone, Copy)]
 pub struct Text {
     bytes: [u8; 65536],
     length: usize,
@@ -14,13 +15,25 @@ pub struct Text {
 
 // A clause sees the bytes that wait.
 impl Model for Text {
-    ghost use Rattle.std.specs.Prelude.{◌≤◌, ℕ, List, take};
+    ghost use Rattle.std.specs.Prelude.{◌≡◌, ◌-◌, ◌≤◌, ◌++◌, ℕ, List, length as long, take, drop, replicate};
+    ghost use Rattle.std.proofs.Common.{arith, ap, sym, ◌∙◌, length-take-le, take-append-drop};
 
     ghost Value = { List ℕ };
 
     ghost view = { λ t. take t.length t.bytes };
 
-    ghost invariant = { λ t. t.length ≤ 65536 };
+    ghost invariant = { λ t. (t.length ≤ 65536) × (long t.bytes ≡ 65536)
+        × (drop t.length t.bytes ≡ replicate (65536 - t.length) 0) };
+
+    ghost inverse = { λ v. record { bytes = v ++ replicate (65536 - long v) 0; length = long v } };
+
+    ghost inverse_ok = { λ t h i.
+        let same : long (take t.length t.bytes) ≡ t.length = length-take-le t.length t.bytes (omega (arith, h.0, h.1)) in
+        record {
+          bytes = (ap (λ n. take t.length t.bytes ++ replicate (65536 - n) 0) same
+              ∙ ap (λ rest. take t.length t.bytes ++ rest) (sym h.2) ∙ take-append-drop t.length t.bytes) i;
+          length = same i;
+        } };
 }
 
 impl Text {
@@ -57,25 +70,28 @@ impl Text {
         self.add(&[letter, b' '])
     }
 
-    // The last N digits of n, and the byte `after` them. (Tried by `{:X}`: three times as slow; the edit digit_of_16 is of
-    // `digit`.)
+    // The last N digits of n, and the byte `after` them: where they stand, if there is room. (Tried by `{:X}`: three times
+    // as slow, and by an array that is always copied: up to twice. The edit digit_of_16 is of `digit`.)
     fn digits<const N: usize>(&mut self, n: u64, after: u8)
-        requires { N ≤ 16 }
+        requires { N < 65536 }
         ensures { length self.new ≡ min (length self.old + N + 1) 65536 }
     {
-        let mut digits = [b'0'; N];
-        let mut rest = n;
-        for place in digits.iter_mut().rev() {
-            *place = digit(rest % 16);
-            rest /= 16;
+        let at = self.length;
+        if N < 65536 - at {
+            lay(&mut self.bytes[at..at + N], n);
+            self.bytes[at + N] = after;
+            self.length = at + N + 1;
+        } else {
+            let mut digits = [b'0'; N];
+            lay(&mut digits, n);
+            self.add(&digits);
+            self.add(&[after]);
         }
-        self.add(&digits);
-        self.add(&[after]);
     }
 
     // The last number of a word.
     pub fn put<const N: usize>(&mut self, n: u64)
-        requires { N ≤ 16 }
+        requires { N < 65536 }
         ensures { length self.new ≡ min (length self.old + N + 1) 65536 }
     {
         self.digits::<N>(n, b' ')
@@ -83,7 +99,7 @@ impl Text {
 
     // A number of a word that goes on.
     pub fn begin<const N: usize>(&mut self, n: u64)
-        requires { N ≤ 16 }
+        requires { N < 65536 }
         ensures { length self.new ≡ min (length self.old + N + 1) 65536 }
     {
         self.digits::<N>(n, b':')
@@ -135,8 +151,11 @@ impl Text {
     pub fn end(&mut self)
         ensures { length self.new ≡ length self.old - 1 + 1 }
     {
-        self.length = self.length.saturating_sub(1);
-        self.add(b"\n");
+        if self.length > 0 {
+            self.bytes[self.length - 1] = b'\n';
+        } else {
+            self.add(b"\n");
+        }
     }
 
     // Writes what waits once it is long.
@@ -154,8 +173,20 @@ impl Text {
         ensures { self.new ≡ [] }
     {
         let written = rt.write_all(&self.bytes[..self.length]).is_ok();
+        self.bytes[..self.length].fill(0);
         self.length = 0;
         written
+    }
+}
+
+// As many of the last digits of n as there are places.
+fn lay(places: &mut [u8], n: u64)
+    ensures { length places.new ≡ length places.old }
+{
+    let mut rest = n;
+    for place in places.iter_mut().rev() {
+        *place = digit(rest % 16);
+        rest /= 16;
     }
 }
 

@@ -3,7 +3,7 @@
 // that is cut short or that names no part is answered by `X`, and the program ends.
 #![tactic(auto)]
 
-ghost use Rattle.std.specs.Prelude.{◌≡◌, ◌+◌, ◌*◌, ◌≤◌, [], length};
+ghost use Rattle.std.specs.Prelude.{◌≡◌, ◌+◌, ◌*◌, ◌≤◌, ◌<◌, [], length};
 
 use oracle_lines::chunk::read_full;
 use oracle_lines::field::Record;
@@ -28,6 +28,7 @@ fn main(rt: HostRuntime) {
 
 // Reads and answers 128 records, or as many as are left. Whether more may follow.
 fn turn(rt: &impl Print, from: &mut impl Read, out: &mut Text) -> bool
+    requires { out.old ≡ [] }
     ensures { out.new ≡ [] }
 {
     let mut chunk = [0u8; 8192];
@@ -36,9 +37,12 @@ fn turn(rt: &impl Print, from: &mut impl Read, out: &mut Text) -> bool
     out.write(rt) & all & (got == 8192)
 }
 
-// Whether every record was answered. (A record of 64 bytes takes no more than 512.)
+// Whether every record was answered. (128 of them take less than all of the room, so that nothing of the text is cut.)
 fn answers(chunk: &[u8], out: &mut Text) -> bool
-    ensures { length out.new ≤ length out.old + 8 * length chunk.now }
+    requires chunk_len_bound { length chunk.now ≤ 8192 }
+    requires nothing_waits { out.old ≡ [] }
+    ensures bound { length out.new ≤ length out.old + 8 * length chunk.now }
+    ensures whole { length out.new < 65536 }
 {
     let (records, rest) = chunk.as_chunks::<64>();
     let mut all = rest.is_empty();
